@@ -1,0 +1,107 @@
+-- Laying plans: a window read wholly inside a section is found in that section, at its distance from the section's start.
+-- The place of a window is the place that it was read from (One-place).
+use mathlib.Core.Path.{_≡_, refl, sym, _∙_, ap, ap₂}
+use mathlib.Core.Bool.{Bool, true, false, _&&_, not}
+use mathlib.Core.List.{List, [], _∷_}
+use Prim.Native.Nat.{ℕ, zero, suc, _+_, _-_, _^_, _≤_, _<_}
+use native.Mathlib.Omega.{arith}
+use native.Mathlib.Nat.{add-zero, add-suc, suc-add, zero-add}
+use lib.Dec.{leb}
+use lib.ListN.{length, drop}
+use borrow.Author.Tests.{leb-true, le-leb, lt-leb, eq-eqb, ne-eqb, not-false}
+use Rattle.theory.specs.Words.{firstOf, when, marksOk}
+use Rattle.theory.specs.Strips.{admitted, strip, window, placeOf}
+use Rattle.theory.specs.Plans.{Section, shades, marks, sectionCount, sectionsFrom, sections, torn, straightFrom, planFault, holdsAt, layingFrom, nthS, layingOf, distanceOf, lookupFault}
+use Rattle.theory.specs.Theorems.{Laid}
+use Rattle.theory.proofs.Base.{and-l, and-r, and-in, and-false}
+use Rattle.theory.proofs.Reading.{letters-length}
+use Rattle.theory.proofs.Rings.{admitted-range, one-place, window-marks}
+
+-- faults
+first-zero : (a b : ℕ) → firstOf a b ≡ 0 → (a ≡ 0) × (b ≡ 0)
+first-zero zero b h = (refl, h)
+first-zero (suc a) b h = absurd (omega arith)
+
+when-zero : (t : Bool) (c : ℕ) → when t (suc c) ≡ 0 → t ≡ false
+when-zero true c h = absurd (omega arith)
+when-zero false c h = refl
+
+pub plan-good : (s : List ℕ) → planFault s ≡ 0
+    → (torn s ≡ false) × (admitted (shades s) (marks s) ≡ true) × (straightFrom (marks s) (shades s ^ marks s) 0 (sections s) ≡ true)
+plan-good s h =
+    let (a, b) = first-zero (when (torn s) 7) _ h in
+    let (c, d) = first-zero (when (not (admitted (shades s) (marks s))) 1) _ b in
+    (when-zero (torn s) 6 a, not-false _ (when-zero _ 0 c), not-false _ (when-zero _ 7 d))
+
+-- sections
+pub sections-length : (m : ℕ) (s : List ℕ) → length (sectionsFrom m s) ≡ m
+sections-length zero s = refl
+sections-length (suc m) s = ap suc (sections-length m (drop 16 s))
+
+-- what holds of the first of straight sections
+pub record Straight (n top end : ℕ) (x : Section) : Type 0 where
+  pub starts : end ≤ x .offset
+  pub wide : n ≤ x .long
+  pub ends : x .offset + x .long ≤ top
+
+straight-first : (n top end : ℕ) (x : Section) (xs : List Section) → straightFrom n top end (x ∷ xs) ≡ true
+    → Straight n top end x × (straightFrom n top (x .offset + x .long) xs ≡ true)
+straight-first n top end x xs h =
+    let a = and-l (leb end (x .offset)) _ h in
+    let b = and-r (leb end (x .offset)) _ h in
+    let c = and-r (leb n (x .long)) _ b in
+    (record { starts = leb-true _ _ a; wide = leb-true _ _ (and-l (leb n (x .long)) _ b); ends = leb-true _ _ (and-l (leb (x .offset + x .long) top) _ c) }, and-r (leb (x .offset + x .long) top) _ c)
+
+pub straight-at : (n top end : ℕ) (xs : List Section) (i : ℕ) → straightFrom n top end xs ≡ true → i < length xs → Straight n top end (nthS xs i)
+straight-at n top end [] i h b = absurd (omega arith)
+straight-at n top end (x ∷ xs) zero h b = straight-first n top end x xs h .0
+straight-at n top end (x ∷ xs) (suc i) h b =
+    let (f, g) = straight-first n top end x xs h in
+    let r = straight-at n top (x .offset + x .long) xs i g (omega arith) in
+    record { starts = omega arith; wide = r .wide; ends = r .ends }
+
+-- sections do not overlap, so the first that holds a window is the only one
+pub laying-at : (n top end : ℕ) (xs : List Section) (i j p : ℕ) → 1 ≤ n → straightFrom n top end xs ≡ true → i < length xs
+    → nthS xs i .offset ≤ p → p + n ≤ nthS xs i .offset + nthS xs i .long → layingFrom j p n xs ≡ suc (j + i)
+laying-at n top end [] i j p o h b f g = absurd (omega arith)
+laying-at n top end (x ∷ xs) zero j p o h b f g =
+    let t : holdsAt p n x ≡ true = and-in (le-leb _ _ f) (le-leb _ _ g) in
+    rw (t, layingFrom) (ap suc (sym (add-zero j)))
+laying-at n top end (x ∷ xs) (suc i) j p o h b f g =
+    let (_, tail) = straight-first n top end x xs h in
+    let r = straight-at n top (x .offset + x .long) xs i tail (omega arith) in
+    let t : holdsAt p n x ≡ false = and-false (leb (x .offset) p) _ (lt-leb (p + n) (x .offset + x .long) (omega arith)) in
+    rw (t, layingFrom) (laying-at n top (x .offset + x .long) xs i (suc j) p o tail (omega arith) f g ∙ ap suc (suc-add j i ∙ sym (add-suc j i)))
+
+-- the lookup's answers from the place and the section
+module _ (s w : List ℕ) (i d p : ℕ) (good : planFault s ≡ 0) (long : length w ≡ marks s) (ok : marksOk (shades s) w ≡ true)
+    (place : placeOf (shades s) (marks s) w ≡ p) (laying : layingFrom 0 p (marks s) (sections s) ≡ suc i) (at : nthS (sections s) i .offset + d ≡ p) where
+  answer : layingOf s w ≡ suc i
+  answer = rw place laying
+
+  distance : distanceOf s w ≡ d
+  distance =
+      let e : layingOf s w - 1 ≡ i = omega (arith, answer) in
+      ap₂ (λ a j. a - nthS (sections s) j .offset) place e ∙ omega arith
+
+  no-fault : lookupFault s w ≡ 0
+  no-fault = none _ _ _ _ good (eq-eqb _ _ long) ok (ne-eqb (layingOf s w) 0 (λ e. omega (arith, answer)))
+    where
+      none : (a : ℕ) (b c e : Bool) → a ≡ 0 → b ≡ true → c ≡ true → e ≡ false
+          → firstOf a (firstOf (firstOf (when (not b) 2) (when (not c) 3)) (when e 9)) ≡ 0
+      none a b c e x y z t = rw (x, y, z, t)
+
+-- a window that a plan's section holds whole: the section starts at its offset, d letters before the window
+pub laid : Laid
+laid s i d good b h =
+    let (_, fit, straight) = plan-good s good in
+    let (two, one) = admitted-range (shades s) (marks s) fit in
+    let p = nthS (sections s) i .offset + d in
+    let w = window (shades s) (marks s) p in
+    let c : i < length (sections s) = omega (arith, sections-length (sectionCount s) (drop 4 s)) in
+    let x = straight-at (marks s) (shades s ^ marks s) 0 (sections s) i straight c in
+    let place = one-place .only (shades s) (marks s) p w two one (omega arith) refl in
+    let laying = laying-at (marks s) (shades s ^ marks s) 0 (sections s) i 0 p one straight c (omega arith) (omega arith) ∙ ap suc (zero-add i) in
+    let long = letters-length (shades s ^ marks s) (strip (shades s) (marks s)) p (marks s) in
+    let ok = window-marks (shades s) (marks s) p two one in
+    (no-fault s w i d p good long ok place laying refl, answer s w i d p good long ok place laying refl, distance s w i d p good long ok place laying refl)

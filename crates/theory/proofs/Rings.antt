@@ -1,0 +1,144 @@
+-- The ring theorem in the specification's words, for every set of allowed lengths; the strip's, with its k^n places.
+use mathlib.Core.Path.{_≡_, refl, sym, _∙_, ap, ap₂, subst}
+use mathlib.Core.Bool.{Bool, true, false}
+use mathlib.Core.List.{List, [], _∷_, _++_}
+use mathlib.Core.Logic.{_≢_}
+use Prim.Native.Nat.{ℕ, zero, suc, _+_, _-_, _*_, _%_, _^_, _≤_, _<_}
+use native.Mathlib.Omega.{arith}
+use native.Mathlib.Nat.{mul-mod-left, suc-mul, one-le-pow}
+use lib.Dec.{eqb, leb}
+use lib.ListN.{length, take, drop, replicate, length-drop, take-append-drop}
+use lib.Seq.{length-take-le, take-append-seam}
+use borrow.Author.Tests.{leb-true, le-leb, eq-eqb}
+use Rattle.theory.specs.Words.{below, turned, smallest, repeated, root, marksOk, allWords, keep}
+use Rattle.theory.specs.Lists.{In, Ascending}
+use Rattle.theory.specs.Rings.{Allowed, divides, ringWords, ring, modulo, findOn, lettersOn, beforeW}
+use Rattle.theory.specs.Strips.{admitted, stripWords, strip, placeOf, window, divisorOf}
+use Rattle.theory.specs.Theorems.{windowOn, placeOn, powerTo, Ring, One-place}
+use Rattle.theory.proofs.Base.{and-l, and-r, and-in}
+use Rattle.theory.proofs.Order.{lt-below, Prefix, prefix, prefix-take, take-prefix}
+use Rattle.theory.proofs.Lists.{keep-all, in-append-left, in-split, Found, found, ascend-before}
+use Rattle.theory.proofs.Letters.{marks-joined}
+use Rattle.theory.proofs.Listed.{divisors-allowed, all-words, all-count, ring-words, ring-ascend}
+use Rattle.theory.proofs.Powers.{repeated-length, Root, is-root, root-is, root-size}
+use Rattle.theory.proofs.Reading.{letters-length, letters-marks}
+use Rattle.theory.proofs.Tops.{one-less}
+use Rattle.theory.proofs.Seams.{Setting}
+use Rattle.theory.proofs.Seams as seams
+use Rattle.theory.proofs.Windows as windows
+use Rattle.theory.proofs.Places as places
+
+module _ (R : Setting) where
+  open Setting R using (z, n, ok, letters, some, allowed)
+
+  place-at-top : ok 1 ≡ true → placeOn ok (suc z) n (replicate n z) + n ≡ length (ring ok (suc z) n)
+  place-at-top h = let (p, s, e) = windows.top-spot R h in ap (λ x. x + n) (places.spot-place R s) ∙ e
+
+  place-at-end : (w : List ℕ) (r : ℕ) → length w ≡ n → marksOk (suc z) w ≡ true → ok (root w) ≡ true → turned r w ≡ smallest w → r < root w
+      → take r w ≢ replicate r z
+      → let u = take (root w) (smallest w) in placeOn ok (suc z) n w + r ≡ beforeW u (ringWords ok (suc z) n) + length u
+  place-at-end w r h k a e l d = elim (windows.window-base-of R w h k a) [ windows.window-base u i f g ↦ at u i f g ]
+    where
+      at : (u : List ℕ) → In u (ringWords ok (suc z) n) → powerTo n u ≡ smallest w → root w ≡ length u
+          → let u = take (root w) (smallest w) in placeOn ok (suc z) n w + r ≡ beforeW u (ringWords ok (suc z) n) + length u
+      at u i f g =
+          let m = seams.member R i in
+          let long : length (take r w) ≡ r = length-take-le r w (omega (arith, m .whole, suc-mul (m .times) (length u))) in
+          let (p, s, q) = windows.end-spot R u w (take r w) (drop r w) i h (sym (take-append-drop r w)) (f ∙ sym e) (omega arith) (λ x. d (x ∙ ap (λ y. replicate y z) long)) in
+          let v : take (root w) (smallest w) ≡ u = base-word m in
+          ap₂ _+_ (places.spot-place R s) (sym long) ∙ q ∙ sym (ap (λ x. beforeW x (ringWords ok (suc z) n) + length x) v)
+        where
+          base-word : seams.Member R u → take (root w) (smallest w) ≡ u
+          base-word m = elim (seams.power-parts R m) [ seams.around-power s x y ↦ ap₂ take g (sym f ∙ x) ∙ take-append-seam u s ]
+
+  place-at-start : (w m : List ℕ) (r : ℕ) → length w ≡ n → marksOk (suc z) w ≡ true → ok (root w) ≡ true → turned r w ≡ smallest w → r < root w
+      → take r w ≡ replicate r z → w ≢ replicate n z → In m (ringWords ok (suc z) n) → take (n - r) (powerTo n m) ≡ drop r w
+      → ((v : List ℕ) → In v (ringWords ok (suc z) n) → below v m ≡ true → take (n - r) (powerTo n v) ≢ drop r w)
+      → modulo (placeOn ok (suc z) n w + r) (length (ring ok (suc z) n)) ≡ beforeW m (ringWords ok (suc z) n)
+  place-at-start w m r h k a e l c d i f none = elim (in-split i) [ found x b g ↦ at x b g ]
+    where
+      rest : length (drop r w) ≡ n - r
+      rest = length-drop r w ∙ ap (λ y. y - r) h
+
+      short : r < n
+      short = omega (arith, h, root-size (omega (arith, h, some)) (root-is w (omega (arith, h, some))))
+
+      at : (x b : List (List ℕ)) → ringWords ok (suc z) n ≡ x ++ (m ∷ b) → modulo (placeOn ok (suc z) n w + r) (length (ring ok (suc z) n)) ≡ beforeW m (ringWords ok (suc z) n)
+      at x b g =
+          let (p, s, q) = windows.start-spot R w (drop r w) r x m b h (sym (take-append-drop r w) ∙ ap (λ y. y ++ drop r w) c) (omega (arith, rest, short)) d g (take-prefix (drop r w) (powerTo n m) (ap (λ y. take y (powerTo n m)) rest ∙ f)) others in
+          ap (λ y. modulo (y + r) (length (ring ok (suc z) n))) (places.spot-place R s) ∙ q
+        where
+          others : (v : List ℕ) → In v x → ¬ Prefix (drop r w) (powerTo n v)
+          others v j o =
+              none v (subst (λ y. In v y) (sym g) (in-append-left (m ∷ b) j)) (lt-below (ascend-before x b (subst Ascending g (ring-ascend ok (suc z) n)) v j))
+              (ap (λ y. take y (powerTo n v)) (sym rest) ∙ prefix-take o)
+
+pub rings : (ok : ℕ → Bool) (k n : ℕ) → 2 ≤ k → 1 ≤ n → Allowed n ok → Ring ok k n
+rings ok zero n h s a = absurd (omega arith)
+rings ok (suc z) n h s a = record {
+  long = places.ring-long R;
+  found = places.place-found R;
+  only = places.place-only R;
+  window-fits = λ p l. let r = places.window-in R (places.place-window R p l .1) in (r .0, r .1, r .2);
+  at-top = λ t. ap (λ x. placeOn ok (suc z) n (replicate n x) + n) last ∙ place-at-top R t;
+  at-end = λ w r x y t e l d. place-at-end R w r x y t e l (λ q. d (q ∙ ap (replicate r) (sym last)));
+  at-start = λ w m r x y t e l c d. place-at-start R w m r x y t e l (c ∙ ap (replicate r) last) (λ q. d (q ∙ ap (replicate n) (sym last)));
+}
+  where
+    R : Setting
+    R = record { z = z; n = n; ok = ok; letters = omega arith; some = s; allowed = a }
+
+    last : suc z - 1 ≡ z
+    last = one-less z
+
+-- a shortest root divides the length
+pub root-divides : (w : List ℕ) → 0 < length w → divides (root w) (length w) ≡ true
+root-divides w h = at (root-is w h)
+  where
+    at : Root (root w) w → divides (root w) (length w) ≡ true
+    at (is-root e t f g k) =
+        and-in (le-leb 1 (root w) k) (eq-eqb (length w % root w) 0 (ap (λ x. x % root w) (ap length f ∙ repeated-length e t ∙ ap (λ x. e * x) g) ∙ mul-mod-left e (root w)))
+
+-- the strip
+pub strip-long : (k n : ℕ) → 2 ≤ k → 1 ≤ n → length (strip k n) ≡ k ^ n
+strip-long k n h s = rings (divisorOf n) k n h s (divisors-allowed n s) .long ∙ ap length (keep-all (λ w. divisorOf n (root w)) (allWords k n) every) ∙ all-count k n
+  where
+    every : (w : List ℕ) → In w (allWords k n) → divides (root w) n ≡ true
+    every w i = let e = all-words k n w .0 i .0 in subst (λ x. divides (root w) x ≡ true) e (root-divides w (omega arith))
+
+pub admitted-range : (k n : ℕ) → admitted k n ≡ true → (2 ≤ k) × (1 ≤ n)
+admitted-range k n h =
+    (leb-true 2 k (and-l _ _ h), leb-true 1 n (and-l _ _ (and-r (leb k 36) _ (and-r (leb 2 k) _ h))))
+
+pub window-marks : (k n p : ℕ) → 2 ≤ k → 1 ≤ n → marksOk k (window k n p) ≡ true
+window-marks k n p h s =
+    let long = strip-long k n h s in
+    subst (λ x. marksOk k (lettersOn x (strip k n) p n) ≡ true) long
+    (letters-marks k (strip k n) p n (omega (arith, long, one-le-pow n k (omega arith))) (marks-joined k (stripWords k n) (λ w i. ring-words (divisorOf n) k n w .0 i .1)))
+
+pub one-place : One-place
+one-place = record { range = admitted-range; long = strip-long; found = found-at; only = only-at }
+  where
+    size : (k n : ℕ) → 2 ≤ k → 1 ≤ n → length (strip k n) ≡ k ^ n
+    size = strip-long
+
+    of-ring : (k n : ℕ) → 2 ≤ k → 1 ≤ n → Ring (divisorOf n) k n
+    of-ring k n h s = rings (divisorOf n) k n h s (divisors-allowed n s)
+
+    place-is : (k n : ℕ) (w : List ℕ) → 2 ≤ k → 1 ≤ n → placeOn (divisorOf n) k n w ≡ placeOf k n w
+    place-is k n w h s = ap (λ x. findOn x 0 x (strip k n) n w) (size k n h s)
+
+    window-is : (k n p : ℕ) → 2 ≤ k → 1 ≤ n → windowOn (divisorOf n) k n p ≡ window k n p
+    window-is k n p h s = ap (λ x. lettersOn x (strip k n) p n) (size k n h s)
+
+    found-at : (k n : ℕ) (w : List ℕ) → 2 ≤ k → 1 ≤ n → length w ≡ n → marksOk k w ≡ true → (placeOf k n w < k ^ n) × (window k n (placeOf k n w) ≡ w)
+    found-at k n w h s e m =
+        let r = of-ring k n h s .found w e m (subst (λ x. divides (root w) x ≡ true) e (root-divides w (omega arith))) in
+        let p = place-is k n w h s in (
+          subst (λ x. x < k ^ n) p (subst (λ x. placeOn (divisorOf n) k n w < x) (size k n h s) (r .0)),
+          sym (window-is k n (placeOf k n w) h s) ∙ ap (windowOn (divisorOf n) k n) (sym p) ∙ r .1,
+        )
+
+    only-at : (k n p : ℕ) (w : List ℕ) → 2 ≤ k → 1 ≤ n → p < k ^ n → window k n p ≡ w → placeOf k n w ≡ p
+    only-at k n p w h s l e =
+        sym (place-is k n w h s) ∙ of-ring k n h s .only p w (subst (λ x. p < x) (sym (size k n h s)) l) (window-is k n p h s ∙ e)

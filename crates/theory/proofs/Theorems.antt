@@ -1,0 +1,25 @@
+-- Everything that the theory proves, in one value.
+use Rattle.theory.specs.Theorems.{Theorems}
+use Rattle.theory.proofs.Marked.{marked}
+use Rattle.theory.proofs.Listed.{listed}
+use Rattle.theory.proofs.Ranks.{undone}
+use Rattle.theory.proofs.Laws.{lyndon-laws}
+use Rattle.theory.proofs.Steps.{steps}
+use Rattle.theory.proofs.Rings.{rings, one-place}
+use Rattle.theory.proofs.Cursors.{ring-cursors, cursors}
+use Rattle.theory.proofs.Laying.{laid}
+
+pub theorems : Theorems
+theorems =
+    record {
+      marked = marked;
+      listed = listed;
+      undone = undone;
+      lyndon-laws = lyndon-laws;
+      steps = steps;
+      rings = rings;
+      ring-cursors = ring-cursors;
+      one-place = one-place;
+      cursors = cursors;
+      laid = laid;
+    }

@@ -1,0 +1,10 @@
+-- What the library is about: words, rings, strips, laying plans, and what is proved of them.
+pub mod Words
+pub mod Lists
+pub mod Sums
+pub mod Rings
+pub mod Steps
+pub mod Strips
+pub mod Plans
+pub mod Marked
+pub mod Theorems

@@ -1,0 +1,14 @@
+-- Members of a list; lists of words in dictionary order, each word once.
+use mathlib.Core.Path.{_≡_}
+use mathlib.Core.Bool.{true}
+use mathlib.Core.List.{List, [], _∷_}
+use Prim.Native.Nat.{ℕ}
+use Rattle.theory.specs.Words.{below}
+
+pub data In {A : Type 0} (x : A) : List A → Type 0 where
+  here : {y : A} {ys : List A} → x ≡ y → In x (y ∷ ys)
+  there : {y : A} {ys : List A} → In x ys → In x (y ∷ ys)
+
+abbrev pub Ascending : List (List ℕ) → Type 0
+Ascending [] = Unit {0}
+Ascending (w ∷ ws) = ((v : List ℕ) → In v ws → below w v ≡ true) × Ascending ws

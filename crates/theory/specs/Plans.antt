@@ -1,0 +1,75 @@
+-- Laying plans and the lookup: which section of a plan holds a window, and at what distance from its start.
+use mathlib.Core.Bool.{Bool, true, false, _&&_, _||_, not}
+use mathlib.Core.List.{List, [], _∷_}
+use Prim.Native.Nat.{ℕ, zero, suc, _+_, _-_, _*_, _^_}
+use lib.Dec.{eqb, ltb, leb}
+use lib.ListN.{length, getD, take, drop}
+use Rattle.theory.specs.Words.{firstOf, when, marksOk}
+use Rattle.theory.specs.Strips.{admitted, placeOf}
+
+-- numbers with the highest byte first
+abbrev pub beFrom : ℕ → List ℕ → ℕ
+beFrom v [] = v
+beFrom v (b ∷ bs) = beFrom (256 * v + b) bs
+
+abbrev pub be : ℕ → ℕ → List ℕ → ℕ
+be i n s = beFrom 0 (take n (drop i s))
+
+-- a section: so many letters of the strip from its offset on
+pub record Section : Type 0 where
+  pub offset : ℕ
+  pub long : ℕ
+
+abbrev pub shades : List ℕ → ℕ
+shades s = getD s 0 0
+
+abbrev pub marks : List ℕ → ℕ
+marks s = getD s 1 0
+
+abbrev pub sectionCount : List ℕ → ℕ
+sectionCount s = be 2 2 s
+
+abbrev pub sectionsFrom : ℕ → List ℕ → List Section
+sectionsFrom zero s = []
+sectionsFrom (suc m) s = record { offset = be 0 8 s; long = be 8 8 s } ∷ sectionsFrom m (drop 16 s)
+
+abbrev pub sections : List ℕ → List Section
+sections s = sectionsFrom (sectionCount s) (drop 4 s)
+
+-- 7, 1, 8
+abbrev pub torn : List ℕ → Bool
+torn s = ltb (length s) 4 || (ltb 500 (sectionCount s) || not (eqb (length s) (4 + 16 * sectionCount s)))
+
+abbrev pub straightFrom : ℕ → ℕ → ℕ → List Section → Bool
+straightFrom n top end [] = true
+straightFrom n top end (x ∷ xs) =
+    leb end (x .offset) && (leb n (x .long) && (leb (x .offset + x .long) top && straightFrom n top (x .offset + x .long) xs))
+
+abbrev pub planFault : List ℕ → ℕ
+planFault s =
+    firstOf
+    (when (torn s) 7)
+    (firstOf (when (not (admitted (shades s) (marks s))) 1) (when (not (straightFrom (marks s) (shades s ^ marks s) 0 (sections s))) 8))
+
+-- the section that holds a whole window at a place: its number plus 1 and the distance
+abbrev pub holdsAt : ℕ → ℕ → Section → Bool
+holdsAt p n x = leb (x .offset) p && leb (p + n) (x .offset + x .long)
+
+abbrev pub layingFrom : ℕ → ℕ → ℕ → List Section → ℕ
+layingFrom i p n [] = 0
+layingFrom i p n (x ∷ xs) = elim (holdsAt p n x) [ true ↦ suc i | false ↦ layingFrom (suc i) p n xs ]
+
+abbrev pub nthS : List Section → ℕ → Section
+nthS xs i = getD xs i (record { offset = 0; long = 0 })
+
+abbrev pub layingOf : List ℕ → List ℕ → ℕ
+layingOf s w = layingFrom 0 (placeOf (shades s) (marks s) w) (marks s) (sections s)
+
+abbrev pub distanceOf : List ℕ → List ℕ → ℕ
+distanceOf s w = placeOf (shades s) (marks s) w - nthS (sections s) (layingOf s w - 1) .offset
+
+abbrev pub wordFault : ℕ → ℕ → List ℕ → ℕ
+wordFault k n w = firstOf (when (not (eqb (length w) n)) 2) (when (not (marksOk k w)) 3)
+
+abbrev pub lookupFault : List ℕ → List ℕ → ℕ
+lookupFault s w = firstOf (planFault s) (firstOf (wordFault (shades s) (marks s) w) (when (eqb (layingOf s w) 0) 9))

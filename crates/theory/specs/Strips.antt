@@ -1,0 +1,51 @@
+-- Strips, windows, cursors. The strip is the lexicographically smallest de Bruijn sequence (document 004, section 1): the ring of
+-- all lengths that divide n. A mark is a letter of the strip, a place one of its positions; a window is n letters.
+use mathlib.Core.Bool.{Bool, true, false, _&&_}
+use mathlib.Core.List.{List}
+use Prim.Native.Nat.{ℕ, _^_}
+use lib.Dec.{leb}
+use lib.ListN.{length}
+use Rattle.theory.specs.Rings.{divides, ringWords, ring, letterOn, lettersOn, findOn, Cursor, Stepped, goodOn, positionOn, cursorOn, nextOn, stepOn}
+
+-- admitted: k from 2 to 36, n from 1 to 60, k^n at most 2^60
+abbrev pub admitted : ℕ → ℕ → Bool
+admitted k n = leb 2 k && (leb k 36 && (leb 1 n && (leb n 60 && leb (k ^ n) (2 ^ 60))))
+
+abbrev pub divisorOf : ℕ → ℕ → Bool
+divisorOf n d = divides d n
+
+-- the strip's words and the strip
+abbrev pub stripWords : ℕ → ℕ → List (List ℕ)
+stripWords k n = ringWords (divisorOf n) k n
+
+abbrev pub strip : ℕ → ℕ → List ℕ
+strip k n = ring (divisorOf n) k n
+
+abbrev pub markAt : ℕ → ℕ → ℕ → ℕ
+markAt k n p = letterOn (k ^ n) (strip k n) p
+
+abbrev pub marksFrom : ℕ → ℕ → ℕ → ℕ → List ℕ
+marksFrom k n p c = lettersOn (k ^ n) (strip k n) p c
+
+abbrev pub window : ℕ → ℕ → ℕ → List ℕ
+window k n p = marksFrom k n p n
+
+-- the place of a window: the first that reads so
+abbrev pub placeOf : ℕ → ℕ → List ℕ → ℕ
+placeOf k n w = findOn (k ^ n) 0 (k ^ n) (strip k n) n w
+
+-- the strip's cursors
+abbrev pub cursorOk : Cursor → Bool
+cursorOk c = goodOn (divisorOf (c .n)) c
+
+abbrev pub placeIn : Cursor → ℕ
+placeIn c = positionOn (divisorOf (c .n)) c
+
+abbrev pub cursorAt : ℕ → ℕ → ℕ → Cursor
+cursorAt k n p = cursorOn (divisorOf n) k n p
+
+abbrev pub nextWord : Cursor → List ℕ
+nextWord c = nextOn (divisorOf (c .n)) c
+
+abbrev pub stepOf : Cursor → Stepped
+stepOf c = stepOn (divisorOf (c .n)) c

@@ -1,0 +1,155 @@
+-- What is proved of the definitions, for every k and n that the hypotheses name. `Theorems`, at the end, is the whole.
+use mathlib.Core.Path.{_≡_}
+use mathlib.Core.Bool.{Bool, true, false}
+use mathlib.Core.List.{List, [], _∷_, _++_}
+use mathlib.Core.Logic.{_↔_, _≢_}
+use Prim.Native.Nat.{ℕ, suc, _+_, _-_, _*_, _/_, _^_, _≤_, _<_}
+use lib.ListN.{length, take, drop, replicate}
+use Rattle.theory.specs.Words.{same, below, upTo, turned, isLyndon, smallest, repeated, root, allWords, keep, lyndons, howMany, rank, wordOf, marksOk}
+use Rattle.theory.specs.Lists.{In, Ascending}
+use Rattle.theory.specs.Rings.{upWords, lyndonsUp, divides, Allowed, ringWords, ring, modulo, letterOn, lettersOn, findOn, Cursor, goodOn, beforeW, positionOn, cursorOn, stepOn, readOn}
+use Rattle.theory.specs.Steps.{extension, nextLyndon, previousLyndon, period}
+use Rattle.theory.specs.Strips.{admitted, stripWords, strip, markAt, marksFrom, window, placeOf, cursorOk, placeIn, cursorAt, stepOf}
+use Rattle.theory.specs.Plans.{planFault, sectionCount, shades, marks, sections, nthS, lookupFault, layingOf, distanceOf}
+use Rattle.theory.specs.Marked.{Marked}
+
+-- The lists hold just the words that they should, ascending, so each once.
+pub record Listed : Type 0 where
+  pub all-words : (k n : ℕ) (w : List ℕ) → In w (allWords k n) ↔ ((length w ≡ n) × (marksOk k w ≡ true))
+  pub all-ascend : (k n : ℕ) → Ascending (allWords k n)
+  pub lyndon-words : (k n : ℕ) (w : List ℕ) → In w (lyndons k n) ↔ ((length w ≡ n) × (marksOk k w ≡ true) × (isLyndon w ≡ true))
+  pub lyndon-ascend : (k n : ℕ) → Ascending (lyndons k n)
+  pub up-words : (k n : ℕ) (w : List ℕ) → In w (upWords k n) ↔ ((1 ≤ length w) × (length w ≤ n) × (marksOk k w ≡ true))
+  pub up-ascend : (k n : ℕ) → Ascending (upWords k n)
+  pub lyndon-up-words : (k n : ℕ) (w : List ℕ) → In w (lyndonsUp k n) ↔ ((length w ≤ n) × (marksOk k w ≡ true) × (isLyndon w ≡ true))
+  pub lyndon-up-ascend : (k n : ℕ) → Ascending (lyndonsUp k n)
+  pub ring-words : (ok : ℕ → Bool) (k n : ℕ) (w : List ℕ)
+      → In w (ringWords ok k n) ↔ ((length w ≤ n) × (marksOk k w ≡ true) × (isLyndon w ≡ true) × (ok (length w) ≡ true))
+  pub ring-ascend : (ok : ℕ → Bool) (k n : ℕ) → Ascending (ringWords ok k n)
+  pub strip-words : (k n : ℕ) (w : List ℕ) → 1 ≤ n
+      → In w (stripWords k n) ↔ ((divides (length w) n ≡ true) × (marksOk k w ≡ true) × (isLyndon w ≡ true))
+
+-- Rank and word of an index undo each other.
+pub record Undone : Type 0 where
+  pub of-index : (k n i : ℕ) → 1 ≤ i → i ≤ howMany k n → rank k (wordOf k n i) ≡ i
+  pub index-word : (k n i : ℕ) → 1 ≤ i → i ≤ howMany k n
+      → (length (wordOf k n i) ≡ n) × (marksOk k (wordOf k n i) ≡ true) × (isLyndon (wordOf k n i) ≡ true)
+  pub of-word : (k : ℕ) (w : List ℕ) → marksOk k w ≡ true → isLyndon w ≡ true → wordOf k (length w) (rank k w) ≡ w
+  pub rank-range : (k : ℕ) (w : List ℕ) → marksOk k w ≡ true → isLyndon w ≡ true → (1 ≤ rank k w) × (rank k w ≤ howMany k (length w))
+
+-- w is u, repeated e times and rotated by r
+pub record Rotated (w u : List ℕ) (e r : ℕ) : Type 0 where
+  pub lyndon : isLyndon u ≡ true
+  pub inside : r < length u
+  pub is : w ≡ turned r (repeated e u)
+
+-- Lyndon words (document 003, section 1.4).
+pub record Lyndon-laws : Type 0 where
+  -- Proposition 7
+  pub by-suffixes : (w : List ℕ)
+      → (isLyndon w ≡ true) ↔ ((1 ≤ length w) × ((u v : List ℕ) → w ≡ u ++ v → 1 ≤ length u → 1 ≤ length v → below w v ≡ true))
+  -- Proposition 8
+  pub product : (l m : List ℕ) → isLyndon l ≡ true → isLyndon m ≡ true → below l m ≡ true → isLyndon (l ++ m) ≡ true
+  -- Proposition 9: what begins a Lyndon word is the extension of one; the extension of one that is not the last letter begins one
+  pub prefix-extends : (p s : List ℕ) → 1 ≤ length p → isLyndon (p ++ s) ≡ true
+      → (isLyndon (take (period p) p) ≡ true) × (p ≡ extension (length p) (take (period p) p))
+  pub extension-begins : (k m : ℕ) (x : List ℕ) → marksOk k x ≡ true → isLyndon x ≡ true → x ≢ (k - 1) ∷ []
+      → (s : List ℕ) × (marksOk k s ≡ true) × (isLyndon (extension m x ++ s) ≡ true)
+  -- Lemma 2
+  pub raise : (p s : List ℕ) (a b : ℕ) → a < b → smallest (p ++ (a ∷ s)) ≡ p ++ (a ∷ s) → isLyndon (p ++ (b ∷ [])) ≡ true
+  -- every word is a rotation of a power of exactly one Lyndon word, by exactly one turn
+  pub rotated : (w : List ℕ) → 1 ≤ length w → (u : List ℕ) × (e : ℕ) × (r : ℕ) × Rotated w u e r × (length u ≡ root w) × (smallest w ≡ repeated e u)
+  pub once : (w u v : List ℕ) (e f r s : ℕ) → 1 ≤ length w → Rotated w u e r → Rotated w v f s → (u ≡ v) × (e ≡ f) × (r ≡ s)
+
+-- The step to the next Lyndon word of length at most n, and back (document 003, section 1.4.2).
+pub record Steps (k n : ℕ) : Type 0 where
+  pub next-in : (x : List ℕ) → In x (lyndonsUp k n) → x ≢ (k - 1) ∷ [] → In (nextLyndon k n x) (lyndonsUp k n)
+  pub next-larger : (x : List ℕ) → In x (lyndonsUp k n) → x ≢ (k - 1) ∷ [] → below x (nextLyndon k n x) ≡ true
+  pub next-least : (x y : List ℕ) → In x (lyndonsUp k n) → In y (lyndonsUp k n) → below x y ≡ true → upTo (nextLyndon k n x) y ≡ true
+  pub next-longer : (x : List ℕ) → In x (lyndonsUp k n) → x ≢ (k - 1) ∷ [] → length x < n → length x < length (nextLyndon k n x)
+  pub next-none : nextLyndon k n ((k - 1) ∷ []) ≡ []
+  pub previous-in : (y : List ℕ) → In y (lyndonsUp k n) → y ≢ 0 ∷ [] → In (previousLyndon k n y) (lyndonsUp k n)
+  pub previous-next : (x : List ℕ) → In x (lyndonsUp k n) → x ≢ (k - 1) ∷ [] → previousLyndon k n (nextLyndon k n x) ≡ x
+  pub next-previous : (y : List ℕ) → In y (lyndonsUp k n) → y ≢ 0 ∷ [] → nextLyndon k n (previousLyndon k n y) ≡ y
+
+-- a ring's windows: n letters from a position; the first position at which a word is read
+abbrev pub windowOn : (ℕ → Bool) → ℕ → ℕ → ℕ → List ℕ
+windowOn ok k n p = let s = ring ok k n in lettersOn (length s) s p n
+
+abbrev pub placeOn : (ℕ → Bool) → ℕ → ℕ → List ℕ → ℕ
+placeOn ok k n w = let s = ring ok k n in findOn (length s) 0 (length s) s n w
+
+-- the power of length n
+abbrev pub powerTo : ℕ → List ℕ → List ℕ
+powerTo n u = repeated (n / length u) u
+
+-- Fredricksen and Maiorana's theorem for a ring (document 003, Theorem 1.5.6; document 004, Theorem 23).
+pub record Ring (ok : ℕ → Bool) (k n : ℕ) : Type 0 where
+  -- as many positions as words of length n whose shortest root has an allowed length
+  pub long : length (ring ok k n) ≡ length (keep (λ w. ok (root w)) (allWords k n))
+  pub found : (w : List ℕ) → length w ≡ n → marksOk k w ≡ true → ok (root w) ≡ true
+      → (placeOn ok k n w < length (ring ok k n)) × (windowOn ok k n (placeOn ok k n w) ≡ w)
+  pub only : (p : ℕ) (w : List ℕ) → p < length (ring ok k n) → windowOn ok k n p ≡ w → placeOn ok k n w ≡ p
+  pub window-fits : (p : ℕ) → p < length (ring ok k n)
+      → (length (windowOn ok k n p) ≡ n) × (marksOk k (windowOn ok k n p) ≡ true) × (ok (root (windowOn ok k n p)) ≡ true)
+  -- where: the last letter alone, then w = α γ with γ α its smallest rotation, α not all k−1, or α all k−1
+  pub at-top : ok 1 ≡ true → placeOn ok k n (replicate n (k - 1)) + n ≡ length (ring ok k n)
+  pub at-end : (w : List ℕ) (r : ℕ) → length w ≡ n → marksOk k w ≡ true → ok (root w) ≡ true
+      → turned r w ≡ smallest w → r < root w → take r w ≢ replicate r (k - 1)
+      → let u = take (root w) (smallest w) in placeOn ok k n w + r ≡ beforeW u (ringWords ok k n) + length u
+  pub at-start : (w m : List ℕ) (r : ℕ) → length w ≡ n → marksOk k w ≡ true → ok (root w) ≡ true
+      → turned r w ≡ smallest w → r < root w → take r w ≡ replicate r (k - 1) → w ≢ replicate n (k - 1)
+      → In m (ringWords ok k n) → take (n - r) (powerTo n m) ≡ drop r w
+      → ((v : List ℕ) → In v (ringWords ok k n) → below v m ≡ true → take (n - r) (powerTo n v) ≢ drop r w)
+      → modulo (placeOn ok k n w + r) (length (ring ok k n)) ≡ beforeW m (ringWords ok k n)
+
+-- Cursors on a ring: one for each position; a step reads the ring's letter and goes on to the next position.
+pub record Cursors-on (ok : ℕ → Bool) (k n : ℕ) : Type 0 where
+  pub there : (p : ℕ) → p < length (ring ok k n) → (goodOn ok (cursorOn ok k n p) ≡ true) × (positionOn ok (cursorOn ok k n p) ≡ p)
+  pub within : (c : Cursor) → c .k ≡ k → c .n ≡ n → goodOn ok c ≡ true → positionOn ok c < length (ring ok k n)
+  pub one : (c : Cursor) → c .k ≡ k → c .n ≡ n → goodOn ok c ≡ true → cursorOn ok k n (positionOn ok c) ≡ c
+  pub onward : (c : Cursor) → c .k ≡ k → c .n ≡ n → goodOn ok c ≡ true
+      → (stepOn ok c .mark ≡ letterOn (length (ring ok k n)) (ring ok k n) (positionOn ok c))
+      × (goodOn ok (stepOn ok c .cursor-is) ≡ true)
+      × (positionOn ok (stepOn ok c .cursor-is) ≡ modulo (suc (positionOn ok c)) (length (ring ok k n)))
+      × (stepOn ok c .passed ≤ n)
+  pub reads : (p c : ℕ) → p < length (ring ok k n) → readOn ok (cursorOn ok k n p) c ≡ lettersOn (length (ring ok k n)) (ring ok k n) p c
+
+-- The strip: every window is read at exactly one place.
+pub record One-place : Type 0 where
+  pub range : (k n : ℕ) → admitted k n ≡ true → (2 ≤ k) × (1 ≤ n)
+  pub long : (k n : ℕ) → 2 ≤ k → 1 ≤ n → length (strip k n) ≡ k ^ n
+  pub found : (k n : ℕ) (w : List ℕ) → 2 ≤ k → 1 ≤ n → length w ≡ n → marksOk k w ≡ true
+      → (placeOf k n w < k ^ n) × (window k n (placeOf k n w) ≡ w)
+  pub only : (k n p : ℕ) (w : List ℕ) → 2 ≤ k → 1 ≤ n → p < k ^ n → window k n p ≡ w → placeOf k n w ≡ p
+
+-- The strip's cursors.
+pub record Cursors : Type 0 where
+  pub there : (k n p : ℕ) → 2 ≤ k → 1 ≤ n → p < k ^ n → (cursorOk (cursorAt k n p) ≡ true) × (placeIn (cursorAt k n p) ≡ p)
+  pub within : (c : Cursor) → 2 ≤ c .k → 1 ≤ c .n → cursorOk c ≡ true → placeIn c < c .k ^ c .n
+  pub one : (c : Cursor) → 2 ≤ c .k → 1 ≤ c .n → cursorOk c ≡ true → cursorAt (c .k) (c .n) (placeIn c) ≡ c
+  pub onward : (c : Cursor) → 2 ≤ c .k → 1 ≤ c .n → cursorOk c ≡ true
+      → (stepOf c .mark ≡ markAt (c .k) (c .n) (placeIn c))
+      × (cursorOk (stepOf c .cursor-is) ≡ true)
+      × (placeIn (stepOf c .cursor-is) ≡ modulo (suc (placeIn c)) (c .k ^ c .n))
+      × (stepOf c .passed ≤ c .n)
+  pub reads : (k n p c : ℕ) → 2 ≤ k → 1 ≤ n → p < k ^ n → readOn (λ d. divides d n) (cursorAt k n p) c ≡ marksFrom k n p c
+
+-- From whichever place n letters are read wholly inside a section, the lookup answers it and the distance.
+abbrev pub Laid : Type 0
+Laid =
+    (s : List ℕ) (i d : ℕ) → planFault s ≡ 0 → i < sectionCount s → d + marks s ≤ nthS (sections s) i .long
+    → let w = window (shades s) (marks s) (nthS (sections s) i .offset + d) in
+    (lookupFault s w ≡ 0) × (layingOf s w ≡ suc i) × (distanceOf s w ≡ d)
+
+pub record Theorems : Type 0 where
+  pub marked : Marked
+  pub listed : Listed
+  pub undone : Undone
+  pub lyndon-laws : Lyndon-laws
+  pub steps : (k n : ℕ) → 2 ≤ k → 1 ≤ n → Steps k n
+  pub rings : (ok : ℕ → Bool) (k n : ℕ) → 2 ≤ k → 1 ≤ n → Allowed n ok → Ring ok k n
+  pub ring-cursors : (ok : ℕ → Bool) (k n : ℕ) → 2 ≤ k → 1 ≤ n → Allowed n ok → Cursors-on ok k n
+  pub one-place : One-place
+  pub cursors : Cursors
+  pub laid : Laid
