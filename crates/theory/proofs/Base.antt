@@ -30,6 +30,28 @@ pub and-false : (a b : Bool) → b ≡ false → (a && b) ≡ false
 and-false true b h = h
 and-false false b h = refl
 
+pub and-true : (b : Bool) → (b && true) ≡ b
+and-true true = refl
+and-true false = refl
+
+pub or-right : (a b : Bool) → b ≡ true → (a || b) ≡ true
+or-right true b h = refl
+or-right false b h = h
+
+-- tests that imply each other are the same
+pub same-test : (a b : Bool) → (a ≡ true → b ≡ true) → (b ≡ true → a ≡ true) → a ≡ b
+same-test true b f g = sym (f refl)
+same-test false true f g = g refl
+same-test false false f g = refl
+
+pub refute : (b : Bool) → ¬ (b ≡ true) → not b ≡ true
+refute true h = absurd (h refl)
+refute false h = refl
+
+pub refuted : (b : Bool) → not b ≡ true → ¬ (b ≡ true)
+refuted true h e = false≢true h
+refuted false h e = false≢true e
+
 pub or-cases : (a b : Bool) → (a || b) ≡ true → (a ≡ true) ⊎ (b ≡ true)
 or-cases true b h = inl refl
 or-cases false b h = inr h

@@ -1,6 +1,6 @@
 -- Counting: sums over a list, and lists compared by their members where nothing repeats.
 use mathlib.Core.Path.{_≡_, refl, sym, _∙_, ap, subst}
-use mathlib.Core.Bool.{Bool, true, false}
+use mathlib.Core.Bool.{Bool, true, false, not}
 use mathlib.Core.List.{List, [], _∷_, _++_}
 use mathlib.Core.Logic.{_⊎_, inl, inr, _≢_}
 use Prim.Native.Nat.{ℕ, zero, suc, _+_, _*_, _≤_}
@@ -8,10 +8,10 @@ use native.Mathlib.Omega.{arith}
 use native.Mathlib.Nat.{le-antisymm}
 use lib.ListN.{length, length-append}
 use Rattle.theory.specs.Words.{pick, when, keep}
-use Rattle.theory.specs.Lists.{In, here, there}
+use Rattle.theory.specs.Lists.{In, here, there, Once}
 use Rattle.theory.specs.Rings.{joined}
 use Rattle.theory.proofs.Base.{test}
-use Rattle.theory.proofs.Lists.{Found, found, in-split, in-rest, Once, each, gather}
+use Rattle.theory.proofs.Lists.{Found, found, in-split, in-rest, each, gather}
 
 module _ {A : Type 0} where
   -- sums of numbers over a list
@@ -56,6 +56,13 @@ module _ {A : Type 0} where
   pub sum-when : (f : A → Bool) (g : A → ℕ) (xs : List A) → sum (λ x. when (f x) (g x)) xs ≡ sum g (keep f xs)
   sum-when f g [] = refl
   sum-when f g (x ∷ xs) = elim (test (f x)) [ inl t ↦ rw t (omega (arith, sum-when f g xs)) | inr t ↦ rw t (omega (arith, sum-when f g xs)) ]
+
+  pub keep-both : (f : A → Bool) (xs : List A) → length (keep f xs) + length (keep (λ x. not (f x)) xs) ≡ length xs
+  keep-both f [] = refl
+  keep-both f (x ∷ xs) = elim (test (f x)) [ inl t ↦ rw t (omega (arith, keep-both f xs)) | inr t ↦ rw t (omega (arith, keep-both f xs)) ]
+
+  pub keep-length : (f : A → Bool) (xs : List A) → length (keep f xs) ≤ length xs
+  keep-length f xs = omega (arith, keep-both f xs)
 
   -- two tests that agree, or that differ at one member alone
   pub keep-same : (f g : A → Bool) (xs : List A) → ((x : A) → In x xs → f x ≡ g x) → keep f xs ≡ keep g xs

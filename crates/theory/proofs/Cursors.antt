@@ -16,11 +16,12 @@ use Rattle.theory.specs.Strips.{divisorOf, stripWords, strip, placeIn, c
 use Rattle.theory.specs.Theorems.{Cursors-on, Cursors}
 use Rattle.theory.proofs.Base.{test, and-l, and-r, and-in}
 use Rattle.theory.proofs.Order.{below-lt, le-upTo, le-not-below}
-use Rattle.theory.proofs.Listed.{divides-le, divisors-allowed, ring-words, ring-ascend}
+use Rattle.theory.proofs.Listed.{ring-words, ring-ascend}
 use Rattle.theory.proofs.Reading.{modulo-small, modulo-full, letters-modulo}
 use Rattle.theory.proofs.Passed.{passed-bound}
 use Rattle.theory.proofs.Rings.{strip-long}
 use Rattle.theory.proofs.Joined.{holds, After, onward, around, word-inside, word-letter, word-at, position-held, word-after}
+use Rattle.theory.proofs.Divisors.{divides-le, divisors-allowed}
 
 -- no step passes more than n words (Passed)
 abbrev Near : (ℕ → Bool) → ℕ → ℕ → Type 0

@@ -1,8 +1,10 @@
--- The theory, in the order a reader learns it.
+-- The theory, in the order a reader learns it: words and order, lists, Lyndon words and necklaces, lists of words, the step to the
+-- next Lyndon word, rings, cursors, plans; then counting: Möbius values and sums, sizes of CS, the automaton, words found by counts.
 pub mod Base
 pub mod Order
 pub mod Lists
 pub mod Counts
+pub mod Divisors
 pub mod Letters
 pub mod Lyndon
 pub mod Powers
@@ -16,6 +18,7 @@ pub mod Next
 pub mod Steps
 pub mod Laws
 pub mod Passed
+pub mod Rotations
 pub mod Joined
 pub mod Reading
 pub mod Seams
@@ -24,5 +27,18 @@ pub mod Places
 pub mod Rings
 pub mod Cursors
 pub mod Laying
+pub mod Levels
+pub mod Primes
+pub mod Mobius
+pub mod Running
+pub mod Bases
+pub mod Ends
+pub mod BySum
+pub mod Automaton
+pub mod Paths
+pub mod Sizes
+pub mod Floors
+pub mod Search
+pub mod Positions
 pub mod Marked
 pub mod Theorems

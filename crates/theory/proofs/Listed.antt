@@ -19,16 +19,7 @@ use Rattle.theory.proofs.Lists.{keep-in, in-keep, keep-ascend}
 use Rattle.theory.proofs.Lyndon.{lyndon-some}
 pub use Rattle.theory.proofs.AllWords.{all-words, all-ascend, all-count}
 pub use Rattle.theory.proofs.UpWords.{up-words, up-ascend}
-
--- a divisor does not exceed the number
-pub divides-le : (d n : ℕ) → 1 ≤ n → divides d n ≡ true → d ≤ n
-divides-le d n h t = elim (split d n) [
-  | upto l ↦ l
-  | over l ↦ absurd (omega (arith, eqb-true (n % d) 0 (and-r (leb 1 d) (eqb (n % d) 0) t), mod-eq-of-lt l))
-]
-
-pub divisors-allowed : (n : ℕ) → 1 ≤ n → Allowed n (divisorOf n)
-divisors-allowed n h = record { whole = and-in (le-leb 1 n h) (eq-eqb (n % n) 0 (mod-self n)); divisor = λ d t. t }
+use Rattle.theory.proofs.Divisors.{divides-le, divisors-allowed}
 
 pub lyndon-words : (k n : ℕ) (w : List ℕ) → In w (lyndons k n) ↔ ((length w ≡ n) × (marksOk k w ≡ true) × (isLyndon w ≡ true))
 lyndon-words k n w = (

@@ -7,7 +7,7 @@ use Prim.Native.Nat.{ℕ, zero, suc, _<_}
 use native.Mathlib.Omega.{arith}
 use lib.ListN.{length, getD, take, drop, take-append-drop}
 use Rattle.theory.specs.Words.{pick, keep}
-use Rattle.theory.specs.Lists.{In, here, there, Ascending}
+use Rattle.theory.specs.Lists.{In, here, there, Ascending, Once}
 use Rattle.theory.specs.Rings.{joined}
 use Rattle.theory.proofs.Base.{test, cmp, less, equal, more}
 use Rattle.theory.proofs.Order.{Lt, below-lt, lt-below, lt-irrefl}
@@ -120,10 +120,6 @@ module _ {A : Type 0} where
   first-of f {xs} {x} i t = elim (first-or f xs) [ inl r ↦ r | inr h ↦ absurd (false≢true (sym (h x i) ∙ t)) ]
 
   -- no repeats
-  abbrev pub Once : List A → Type 0
-  Once [] = Unit {0}
-  Once (x ∷ xs) = (¬ In x xs) × Once xs
-
   pub once-append : (xs ys : List A) → Once xs → Once ys → ((x : A) → In x xs → In x ys → ⊥) → Once (xs ++ ys)
   once-append [] ys p q h = q
   once-append (x ∷ xs) ys p q h =

@@ -9,11 +9,11 @@ use native.Mathlib.Omega.{arith}
 use native.Mathlib.Nat.{eq-of-mul-eq-mul-right, zero-mul, suc-mul, le-antisymm}
 use lib.ListN.{length, take, drop, length-append, take-append-drop}
 use lib.Seq.{take-append-seam, drop-append-seam, length-take-le, drop-length, take-length}
-use Rattle.theory.specs.Words.{below, turned, leastFrom, smallest, repeated, root}
+use Rattle.theory.specs.Words.{below, turned, leastFrom, smallest, repeated, root, marksOk}
 use Rattle.theory.proofs.Base.{test, Cmp, less, equal, more, cmp, Split, upto, over, split, nil-of, Levi, levi, longer, shorter, split-same, cancel-left, unsnoc, Parts, parts, cut-at}
 use Rattle.theory.proofs.Order.{Lt, Le, Cut, differ, agree, Prefix, prefix, Tri, is-lt, is-eq, is-gt, tri, below-lt, not-below, lt-irrefl, lt-asym, lt-trans, lt-le, le-refl, eq-le, le-trans, le-antisym, le-not-lt, not-lt, cut-lt, cut-irrefl, cut-asym, cut-append, cut-prefix, cut-unprefix, cut-shorten, cut-mid, lt-cut, cut-or, cut-not-prefix, cut-at-letter, prefix-length, prefix-trans, prefix-append, prefix-both}
 use Rattle.theory.proofs.Lyndon.{Prenecklace, Lyndon, Necklace, turned-parts, one-letter, lyndon-pre, pre-prefix, necklace-pre, raise-last}
-use Rattle.theory.proofs.Powers.{repeated-length, repeated-snoc, repeated-add, repeated-comm, repeated-nil, Rot, rot, rot-refl, rot-sym, rot-trans, rot-length, turned-rot, Turn, turn, power-turn, power-rotation, Root, is-root, root-is, root-least, same-root, Extends, extends, extends-prefix, extends-self, extends-power, Behind, behind, extends-long, extends-short, Periods, periods, extends-periods}
+use Rattle.theory.proofs.Powers.{repeated-length, repeated-snoc, repeated-add, repeated-comm, repeated-nil, Rot, rot, rot-refl, rot-sym, rot-trans, rot-length, marks-rot, turned-rot, Turn, turn, power-turn, power-rotation, Root, is-root, root-is, root-least, same-root, Extends, extends, extends-prefix, extends-self, extends-power, Behind, behind, extends-long, extends-short, Periods, periods, extends-periods}
 
 -- Proposition 8
 pub product-lyndon : {l m : List ℕ} → Lyndon l → Lyndon m → Lt l m → Lyndon (l ++ m)
@@ -258,11 +258,17 @@ smallest-le {w} {v} (rot a b e f) = elim (least-from (length w - 1) 1 w w (rot-r
 pub smallest-necklace : (w : List ℕ) → Necklace (smallest w)
 smallest-necklace w u v e = smallest-le (rot-trans (smallest-rot w) (rot u v e refl))
 
+pub smallest-pre : (w : List ℕ) → smallest w ≡ w → Prenecklace w
+smallest-pre w e = necklace-pre (subst Necklace e (smallest-necklace w))
+
 pub necklace-le : {w v : List ℕ} → Necklace w → Rot w v → Le w v
 necklace-le {w} h (rot a b e f) = subst (λ r. Le w r) (sym f) (h a b e)
 
 pub smallest-is : {w v : List ℕ} → Rot w v → Necklace v → smallest w ≡ v
 smallest-is {w} {v} r h = le-antisym (smallest-le r) (necklace-le h (rot-trans (rot-sym r) (smallest-rot w)))
+
+pub smallest-marks : (k : ℕ) (w : List ℕ) → marksOk k w ≡ true → marksOk k (smallest w) ≡ true
+smallest-marks k w h = marks-rot k (smallest-rot w) h
 
 pub smallest-length : (w : List ℕ) → length (smallest w) ≡ length w
 smallest-length w = sym (rot-length (smallest-rot w))

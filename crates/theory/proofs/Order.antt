@@ -1,5 +1,5 @@
 -- Dictionary order as relations on words: Lt, Le, Cut (a letter decides), Prefix. The one interface to `same`, `below`, `upTo`.
-use mathlib.Core.Path.{_≡_, refl, sym, _∙_, ap, subst}
+use mathlib.Core.Path.{_≡_, refl, sym, _∙_, ap, subst, subst₂}
 use mathlib.Core.Bool.{Bool, true, false, _&&_, _||_, false≢true, true≢false}
 use mathlib.Core.List.{List, [], _∷_, _++_, append-assoc, append-nil, head-eq-of-cons-eq, tail-eq-of-cons-eq, nil≢cons}
 use mathlib.Core.Logic.{_⊎_, inl, inr}
@@ -176,6 +176,10 @@ lt-unprefix [] h = h
 lt-unprefix (x ∷ p) (now h) = absurd (omega arith)
 lt-unprefix (x ∷ p) (later h) = lt-unprefix p h
 
+pub le-prefix : (p : List ℕ) {u v : List ℕ} → Le u v → Le (p ++ u) (p ++ v)
+le-prefix [] h = h
+le-prefix (x ∷ p) h = further (le-prefix p h)
+
 pub lt-append : (u : List ℕ) (y : ℕ) (t : List ℕ) → Lt u (u ++ (y ∷ t))
 lt-append [] y t = short
 lt-append (x ∷ u) y t = later (lt-append u y t)
@@ -319,3 +323,7 @@ prefix-take {u} (prefix t e) = ap (take (length u)) e ∙ take-append-seam u t
 
 pub take-prefix : (u v : List ℕ) → take (length u) v ≡ u → Prefix u v
 take-prefix u v e = prefix (drop (length u) v) (sym (take-append-drop (length u) v) ∙ ap (λ r. r ++ drop (length u) v) e)
+
+-- what decides between two words decides between words that they begin
+pub cut-on : {u v x y : List ℕ} → Prefix u x → Prefix v y → Cut u v → Cut x y
+cut-on (prefix s e) (prefix t f) c = subst₂ Cut (sym e) (sym f) (cut-append s t c)

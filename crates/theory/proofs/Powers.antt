@@ -10,11 +10,14 @@ use lib.Dec.{eqb, leb}
 use lib.ListN.{length, take, drop, length-append, length-take, take-append-drop}
 use lib.Seq.{take-append-seam, take-append-le, length-take-le, take-nil, take-length}
 use borrow.Author.Tests.{leb-true, le-leb, eqb-true, eq-eqb}
-use Rattle.theory.specs.Words.{same, turned, repeated, isRoot, rootFrom, root}
+use Rattle.theory.specs.Words.{same, turned, repeated, isRoot, rootFrom, root, marksOk}
 use Rattle.theory.specs.Steps.{extension}
 use Rattle.theory.proofs.Base.{test, and-l, and-r, and-in, Cmp, less, equal, more, cmp, Split, upto, over, split, nil-of, Levi, levi, longer, shorter, split-same, cancel-left, cancel-right, Parts, parts, cut-at}
 use Rattle.theory.proofs.Order.{Prefix, prefix, same-eq, eq-same, prefix-length, prefix-trans, prefix-append, prefix-under, prefix-drop, prefix-both, prefix-eq}
+use Rattle.theory.proofs.Letters.{marks-left, marks-right, marks-append}
 use Rattle.theory.proofs.Lyndon.{turned-parts}
+use Rattle.theory.specs.Rings.{divides}
+use Rattle.theory.proofs.Divisors.{times, divides-in}
 
 -- powers
 pub repeated-length : (e : ℕ) (u : List ℕ) → length (repeated e u) ≡ e * length u
@@ -62,6 +65,11 @@ rot-trans {w} {v} {x} (rot a b e f) (rot c d g h) = elim (levi b a c d (sym f �
 
 pub rot-length : {w v : List ℕ} → Rot w v → length w ≡ length v
 rot-length (rot a b e f) = omega (arith, ap length e, ap length f, length-append a b, length-append b a)
+
+pub marks-rot : (k : ℕ) {w v : List ℕ} → Rot w v → marksOk k w ≡ true → marksOk k v ≡ true
+marks-rot k {w} {v} (rot a b e f) h =
+    let g : marksOk k (a ++ b) ≡ true = rw e at h in
+    rw f (marks-append k b a (marks-right k a b g) (marks-left k a b g))
 
 pub turned-rot : (i : ℕ) (w : List ℕ) → Rot w (turned i w)
 turned-rot i w = rot (take i w) (drop i w) (sym (take-append-drop i w)) refl
@@ -158,6 +166,12 @@ root-least {d} {w} p r = root-from (length w) 1 w d (positive r) (omega (arith, 
   where
     positive : Root d w → 1 ≤ d
     positive (is-root e t f g h) = h
+
+pub root-divides : (w : List ℕ) → 0 < length w → divides (root w) (length w) ≡ true
+root-divides w h = at (root-is w h)
+  where
+    at : Root (root w) w → divides (root w) (length w) ≡ true
+    at (is-root e t f g k) = divides-in k (times e (ap length f ∙ repeated-length e t ∙ ap (λ x. e * x) g))
 
 -- a rotation keeps roots
 pub root-rot : {d : ℕ} {w v : List ℕ} → Rot w v → 0 < length w → Root d w → Root d v

@@ -19,14 +19,16 @@ use Rattle.theory.proofs.Base.{and-l, and-r, and-in}
 use Rattle.theory.proofs.Order.{lt-below, Prefix, prefix, prefix-take, take-prefix}
 use Rattle.theory.proofs.Lists.{keep-all, in-append-left, in-split, Found, found, ascend-before}
 use Rattle.theory.proofs.Letters.{marks-joined}
-use Rattle.theory.proofs.Listed.{divisors-allowed, all-words, all-count, ring-words, ring-ascend}
-use Rattle.theory.proofs.Powers.{repeated-length, Root, is-root, root-is, root-size}
+use Rattle.theory.proofs.Listed.{all-words, all-count, ring-words, ring-ascend}
+use Rattle.theory.proofs.Powers.{repeated-length, Root, is-root, root-is, root-size, root-divides}
 use Rattle.theory.proofs.Reading.{letters-length, letters-marks}
 use Rattle.theory.proofs.Tops.{one-less}
+use Rattle.theory.proofs.Rotations.{ring-base, ring-base-of}
 use Rattle.theory.proofs.Seams.{Setting}
 use Rattle.theory.proofs.Seams as seams
 use Rattle.theory.proofs.Windows as windows
 use Rattle.theory.proofs.Places as places
+use Rattle.theory.proofs.Divisors.{divisors-allowed}
 
 module _ (R : Setting) where
   open Setting R using (z, n, ok, letters, some, allowed)
@@ -37,13 +39,13 @@ module _ (R : Setting) where
   place-at-end : (w : List ℕ) (r : ℕ) → length w ≡ n → marksOk (suc z) w ≡ true → ok (root w) ≡ true → turned r w ≡ smallest w → r < root w
       → take r w ≢ replicate r z
       → let u = take (root w) (smallest w) in placeOn ok (suc z) n w + r ≡ beforeW u (ringWords ok (suc z) n) + length u
-  place-at-end w r h k a e l d = elim (windows.window-base-of R w h k a) [ windows.window-base u i f g ↦ at u i f g ]
+  place-at-end w r h k a e l d = elim (ring-base-of ok (suc z) n some allowed w h k a) [ ring-base u i f g ↦ at u i (sym f) g ]
     where
       at : (u : List ℕ) → In u (ringWords ok (suc z) n) → powerTo n u ≡ smallest w → root w ≡ length u
           → let u = take (root w) (smallest w) in placeOn ok (suc z) n w + r ≡ beforeW u (ringWords ok (suc z) n) + length u
       at u i f g =
           let m = seams.member R i in
-          let long : length (take r w) ≡ r = length-take-le r w (omega (arith, m .whole, suc-mul (m .times) (length u))) in
+          let long : length (take r w) ≡ r = length-take-le r w (omega (arith, m .fit .whole, suc-mul (m .fit .times) (length u))) in
           let (p, s, q) = windows.end-spot R u w (take r w) (drop r w) i h (sym (take-append-drop r w)) (f ∙ sym e) (omega arith) (λ x. d (x ∙ ap (λ y. replicate y z) long)) in
           let v : take (root w) (smallest w) ≡ u = base-word m in
           ap₂ _+_ (places.spot-place R s) (sym long) ∙ q ∙ sym (ap (λ x. beforeW x (ringWords ok (suc z) n) + length x) v)
@@ -90,14 +92,6 @@ rings ok (suc z) n h s a = record {
 
     last : suc z - 1 ≡ z
     last = one-less z
-
--- a shortest root divides the length
-pub root-divides : (w : List ℕ) → 0 < length w → divides (root w) (length w) ≡ true
-root-divides w h = at (root-is w h)
-  where
-    at : Root (root w) w → divides (root w) (length w) ≡ true
-    at (is-root e t f g k) =
-        and-in (le-leb 1 (root w) k) (eq-eqb (length w % root w) 0 (ap (λ x. x % root w) (ap length f ∙ repeated-length e t ∙ ap (λ x. e * x) g) ∙ mul-mod-left e (root w)))
 
 -- the strip
 pub strip-long : (k n : ℕ) → 2 ≤ k → 1 ≤ n → length (strip k n) ≡ k ^ n

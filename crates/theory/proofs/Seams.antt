@@ -19,11 +19,13 @@ use Rattle.theory.proofs.Base.{and-l, and-r, Split, upto, over, split, 
 use Rattle.theory.proofs.Order.{Lt, Le, Cut, Prefix, prefix, Tri, is-lt, is-eq, is-gt, tri, lt-irrefl, lt-asym, lt-le, le-not-lt, le-lt-trans, lt-le-trans, le-cases, eq-le, not-lt, cut-lt, cut-append, cut-at-letter, Three, cut-below, cut-above, begins, cmp3, prefix-trans, prefix-both, prefix-under, prefix-length, prefix-eq}
 use Rattle.theory.proofs.Lists.{in-append-left, in-append-right, in-append-cases, in-mid, in-split, Found, found, ascend-before, ascend-after, ascend-right, ascend-around, Around, around}
 use Rattle.theory.proofs.Letters.{marks-left, marks-right, marks-append, marks-repeated, marks-replicate, marks-cons}
-use Rattle.theory.proofs.Listed.{ring-words, ring-ascend, divides-le}
+use Rattle.theory.proofs.Listed.{ring-words, ring-ascend}
 use Rattle.theory.proofs.Lyndon.{Lyndon, Prenecklace, lyndon-in, lyndon-out, necklace-pre, fill-top}
 use Rattle.theory.proofs.Powers.{repeated-length, repeated-snoc}
-use Rattle.theory.proofs.Necklaces.{power-necklace, power-lt, power-lt-out}
+use Rattle.theory.proofs.Necklaces.{power-necklace}
+use Rattle.theory.proofs.Rotations.{Fits, power-is, power-length, power-self, powers-lt, powers-lt-out, ring-fits}
 use Rattle.theory.proofs.Tops.{Top, top, under, top-of, replicate-mid, replicate-split, Low, low, lyndon-low, low-below, Last, is-z, not-above, last-or, last-lyndon}
+use Rattle.theory.proofs.Divisors.{divides-le}
 
 -- between two words that begin with p every word begins with p
 squeeze : (p s t v : List ℕ) → length p ≤ length v → Le (p ++ s) v → Le v (p ++ t) → Prefix p v
@@ -50,25 +52,14 @@ module _ (R : Setting) where
 
   -- what a word of the ring is
   pub record Member (u : List ℕ) : Type 0 where
-    pub lyndon : Lyndon u
+    pub fit : Fits n u
     pub over-z : marksOk (suc z) u ≡ true
-    pub times : ℕ
-    pub whole : suc times * length u ≡ n
     pub allow : ok (length u) ≡ true
-
-  -- n as a multiple of a length that divides it
-  pub multiple : (d : ℕ) → divides d n ≡ true → (e : ℕ) × (suc e * d ≡ n)
-  multiple d h = go (n / d) (omega (arith, div-add-mod' n d, eqb-true (n % d) 0 (and-r (leb 1 d) _ h)))
-    where
-      go : (q : ℕ) → q * d ≡ n → (e : ℕ) × (suc e * d ≡ n)
-      go zero e = absurd (omega (arith, zero-mul d))
-      go (suc q) e = (q, e)
 
   pub member : {u : List ℕ} → In u Words → Member u
   member {u} i =
       let r = ring-words ok (suc z) n u .0 i in
-      let (e, f) = multiple (length u) (allowed .divisor (length u) (r .3)) in
-      record { lyndon = lyndon-in u (r .2); over-z = r .1; times = e; whole = f; allow = r .3 }
+      record { fit = ring-fits ok (suc z) n some allowed i; over-z = r .1; allow = r .3 }
 
   pub in-ring : {u : List ℕ} → Lyndon u → marksOk (suc z) u ≡ true → ok (length u) ≡ true → In u Words
   in-ring {u} h k a = ring-words ok (suc z) n u .1 (divides-le (length u) n some (allowed .divisor (length u) a), k, lyndon-out h, a)
@@ -76,44 +67,21 @@ module _ (R : Setting) where
   pub whole-in-ring : {u : List ℕ} → Lyndon u → marksOk (suc z) u ≡ true → length u ≡ n → In u Words
   whole-in-ring {u} h k e = in-ring h k (ap ok e ∙ allowed .whole)
 
-  -- the power of length n
-  pub power-is : {u : List ℕ} (m : Member u) → powerTo n u ≡ repeated (suc (m .times)) u
-  power-is {u} m = ap (λ r. repeated r u) (ap (λ r. r / length u) (sym (m .whole)) ∙ mul-div-cancel (suc (m .times)) (m .lyndon .some))
-
-  pub power-length : {u : List ℕ} → Member u → length (powerTo n u) ≡ n
-  power-length {u} m = ap length (power-is m) ∙ repeated-length (suc (m .times)) u ∙ m .whole
-
-  pub power-whole : {u : List ℕ} → Member u → length u ≡ n → powerTo n u ≡ u
-  power-whole {u} m e = go (m .times) (m .whole) (power-is m)
-    where
-      go : (t : ℕ) → suc t * length u ≡ n → powerTo n u ≡ repeated (suc t) u → powerTo n u ≡ u
-      go zero f g = g ∙ append-nil u
-      go (suc t) f g = absurd (omega (arith, suc-mul (suc t) (length u), suc-mul t (length u)))
-
   pub power-marks : {u : List ℕ} → Member u → marksOk (suc z) (powerTo n u) ≡ true
-  power-marks {u} m = rw (power-is m) (marks-repeated (suc z) (suc (m .times)) u (m .over-z))
+  power-marks {u} m = rw (power-is (m .fit)) (marks-repeated (suc z) (suc (m .fit .times)) u (m .over-z))
 
   pub power-pre : {u : List ℕ} → Member u → Prenecklace (powerTo n u)
-  power-pre {u} m = subst Prenecklace (sym (power-is m)) (necklace-pre (power-necklace (suc (m .times)) (m .lyndon)))
-
-  power-lengths : {u v : List ℕ} (a : Member u) (b : Member v) → length (repeated (suc (a .times)) u) ≡ length (repeated (suc (b .times)) v)
-  power-lengths {u} {v} a b = repeated-length (suc (a .times)) u ∙ a .whole ∙ sym (b .whole) ∙ sym (repeated-length (suc (b .times)) v)
-
-  pub powers-lt : {u v : List ℕ} → Member u → Member v → Lt u v → Lt (powerTo n u) (powerTo n v)
-  powers-lt {u} {v} a b l = subst₂ Lt (sym (power-is a)) (sym (power-is b)) (power-lt (a .times) (b .times) (a .lyndon) (b .lyndon) (power-lengths a b) l)
-
-  pub powers-lt-out : {u v : List ℕ} → Member u → Member v → Lt (powerTo n u) (powerTo n v) → Lt u v
-  powers-lt-out {u} {v} a b l = power-lt-out (a .times) (b .times) (a .lyndon) (b .lyndon) (power-lengths a b) (subst₂ Lt (power-is a) (power-is b) l)
+  power-pre {u} m = subst Prenecklace (sym (power-is (m .fit))) (necklace-pre (power-necklace (suc (m .fit .times)) (m .fit .lyndon)))
 
   powers-le : {u v : List ℕ} → Member u → Member v → Le u v → Le (powerTo n u) (powerTo n v)
-  powers-le {u} {v} a b l = elim (le-cases l) [ inl p ↦ lt-le (powers-lt a b p) | inr p ↦ eq-le (ap (powerTo n) p) ]
+  powers-le {u} {v} a b l = elim (le-cases l) [ inl p ↦ lt-le (powers-lt (a .fit) (b .fit) p) | inr p ↦ eq-le (ap (powerTo n) p) ]
 
   -- a word begins its power, and ends it
   pub data Around-power (u : List ℕ) : Type 0 where
     around-power : (s : List ℕ) → powerTo n u ≡ u ++ s → powerTo n u ≡ s ++ u → Around-power u
 
   pub power-parts : {u : List ℕ} → Member u → Around-power u
-  power-parts {u} m = around-power (repeated (m .times) u) (power-is m) (power-is m ∙ sym (repeated-snoc (m .times) u))
+  power-parts {u} m = around-power (repeated (m .fit .times) u) (power-is (m .fit)) (power-is (m .fit) ∙ sym (repeated-snoc (m .fit .times) u))
 
   -- the neighbour behind: nothing of the ring lies between
   pub record Next (u v : List ℕ) : Type 0 where
@@ -150,10 +118,10 @@ module _ (R : Setting) where
     filled : In (p ++ replicate (suc t) z) Words → powerTo n (p ++ replicate (suc t) z) ≡ p ++ replicate (suc t) z → Filled p t
 
   pub fill : {u : List ℕ} → Member u → (p : List ℕ) (a t : ℕ) → 0 < length p → powerTo n u ≡ p ++ (a ∷ replicate t z) → a < z → Filled p t
-  fill {u} m p a t h e l = filled inside (power-whole (member inside) long)
+  fill {u} m p a t h e l = filled inside (power-self (member inside .fit) long)
     where
       long : length (p ++ replicate (suc t) z) ≡ n
-      long = omega (arith, power-length m, ap length e, length-append p (a ∷ replicate t z), length-append p (replicate (suc t) z), length-replicate t z)
+      long = omega (arith, power-length (m .fit), ap length e, length-append p (a ∷ replicate t z), length-append p (replicate (suc t) z), length-replicate t z)
 
       size : 0 + suc (length (replicate t z)) ≡ suc t
       size = omega (arith, length-replicate t z)
@@ -173,7 +141,7 @@ module _ (R : Setting) where
   fill-above : {u : List ℕ} (m : Member u) (p : List ℕ) (a t : ℕ) → powerTo n u ≡ p ++ (a ∷ replicate t z) → a < z
       → In (p ++ replicate (suc t) z) Words → powerTo n (p ++ replicate (suc t) z) ≡ p ++ replicate (suc t) z → Lt u (p ++ replicate (suc t) z)
   fill-above {u} m p a t e l i f =
-      powers-lt-out m (member i) (subst₂ Lt (sym e) (sym f) (cut-lt (cut-at-letter p (replicate t z) (replicate t z) l)))
+      powers-lt-out (m .fit) (member i .fit) (subst₂ Lt (sym e) (sym f) (cut-lt (cut-at-letter p (replicate t z) (replicate t z) l)))
 
   -- the neighbour's power begins with all that stands before the last smaller letter
   pub seam : {u v : List ℕ} → Next u v → (p : List ℕ) (a t : ℕ) → powerTo n u ≡ p ++ (a ∷ replicate t z) → a < z → Prefix p (powerTo n v)
@@ -183,8 +151,8 @@ module _ (R : Setting) where
       between : In ((c ∷ p) ++ replicate (suc t) z) Words → powerTo n ((c ∷ p) ++ replicate (suc t) z) ≡ (c ∷ p) ++ replicate (suc t) z → Prefix (c ∷ p) (powerTo n v)
       between i f =
           squeeze (c ∷ p) (a ∷ replicate t z) (replicate (suc t) z) (powerTo n v)
-          (omega (arith, power-length (x .here-u), power-length (x .here-v), ap length e, length-append (c ∷ p) (a ∷ replicate t z)))
-          (subst (λ r. Le r (powerTo n v)) e (lt-le (powers-lt (x .here-u) (x .here-v) (x .smaller))))
+          (omega (arith, power-length (x .here-u .fit), power-length (x .here-v .fit), ap length e, length-append (c ∷ p) (a ∷ replicate t z)))
+          (subst (λ r. Le r (powerTo n v)) e (lt-le (powers-lt (x .here-u .fit) (x .here-v .fit) (x .smaller))))
           (subst (λ r. Le (powerTo n v) r) f (powers-le (x .here-v) (member i) (x .nearest ((c ∷ p) ++ replicate (suc t) z) i (fill-above (x .here-u) (c ∷ p) a t e l i f))))
 
   -- N u has a letter below z, in its last copy of u
@@ -193,7 +161,7 @@ module _ (R : Setting) where
 
   pub tail-at : {u : List ℕ} → Member u → u ≢ z ∷ [] → (p : List ℕ) (a t : ℕ) → powerTo n u ≡ p ++ (a ∷ replicate t z)
       → (s : List ℕ) × (u ≡ s ++ (a ∷ replicate t z))
-  tail-at {u} m d p a t e = elim (power-parts m) [ around-power q f g ↦ at q g (lyndon-low z u (m .lyndon) (m .over-z) d) ]
+  tail-at {u} m d p a t e = elim (power-parts m) [ around-power q f g ↦ at q g (lyndon-low z u (m .fit .lyndon) (m .over-z) d) ]
     where
       at : (q : List ℕ) → powerTo n u ≡ q ++ u → Low z u → (s : List ℕ) × (u ≡ s ++ (a ∷ replicate t z))
       at q g (low c v h l) = elim (levi q u p (a ∷ replicate t z) (sym g ∙ e)) [
@@ -206,7 +174,7 @@ module _ (R : Setting) where
           too-far (b ∷ r) j = absurd (omega (arith, replicate-mid t z r v (tail-eq-of-cons-eq j ∙ ap (λ x. r ++ x) h)))
 
   pub tail-of : {u : List ℕ} → Member u → u ≢ z ∷ [] → Tail u
-  tail-of {u} m d = elim (top-of z (powerTo n u) (power-marks m)) [ top e ↦ absurd (all-top e (lyndon-low z u (m .lyndon) (m .over-z) d) (power-parts m)) | under p a t e l ↦ ends p a t e l (tail-at m d p a t e) ]
+  tail-of {u} m d = elim (top-of z (powerTo n u) (power-marks m)) [ top e ↦ absurd (all-top e (lyndon-low z u (m .fit .lyndon) (m .over-z) d) (power-parts m)) | under p a t e l ↦ ends p a t e l (tail-at m d p a t e) ]
     where
       ends : (p : List ℕ) (a t : ℕ) → powerTo n u ≡ p ++ (a ∷ replicate t z) → a < z → (s : List ℕ) × (u ≡ s ++ (a ∷ replicate t z)) → Tail u
       ends p a t e l (s, f) = tail p s a t e f l
@@ -228,7 +196,7 @@ module _ (R : Setting) where
   largest-length = omega (arith, length-replicate (n - 1) z)
 
   member-last : {y : List ℕ} → Member y → Last z (n - 1) y
-  member-last {y} m = last-or z (n - 1) y letters (m .lyndon) (m .over-z) (omega (arith, m .whole, suc-mul (m .times) (length y)))
+  member-last {y} m = last-or z (n - 1) y letters (m .fit .lyndon) (m .over-z) (omega (arith, m .fit .whole, suc-mul (m .fit .times) (length y)))
 
   pub above-largest : {y : List ℕ} → Member y → Lt largest y → y ≡ z ∷ []
   above-largest {y} m l = elim (member-last m) [ is-z e ↦ e | not-above q ↦ absurd (le-not-lt q l) ]
@@ -257,7 +225,7 @@ module _ (R : Setting) where
   pub only-top : {u v : List ℕ} → Next u v → v ≡ z ∷ [] → (y : List ℕ) → In y Words → Lt u y → y ≡ z ∷ []
   only-top {u} {v} x f y i l = elim (List-discrete ℕ-discrete y (z ∷ [])) [
     | yes g ↦ g
-    | no g ↦ absurd (le-not-lt (x .nearest y i l) (subst (λ r. Lt y r) (sym f) (low-below (lyndon-low z y (member i .lyndon) (member i .over-z) g))))
+    | no g ↦ absurd (le-not-lt (x .nearest y i l) (subst (λ r. Lt y r) (sym f) (low-below (lyndon-low z y (member i .fit .lyndon) (member i .over-z) g))))
   ]
 
   -- from any word but z on, the ring begins with the word's power
@@ -268,14 +236,14 @@ module _ (R : Setting) where
       m = member (subst (λ r. In u r) (sym e) (in-mid a []))
 
       whole-word : u ≡ largest → Prefix (powerTo n u) (u ++ [])
-      whole-word f = prefix [] (append-nil u ∙ sym (append-nil (powerTo n u) ∙ power-whole m (ap length f ∙ largest-length)))
+      whole-word f = prefix [] (append-nil u ∙ sym (append-nil (powerTo n u) ∙ power-self (m .fit) (ap length f ∙ largest-length)))
   reads a u (v ∷ b) e d = elim (List-discrete ℕ-discrete v (z ∷ [])) [ yes f ↦ whole-word (before-top (x .here-u) d (only-top x f)) | no f ↦ across (tail-of (x .here-u) d) (power-parts (x .here-u)) (reads (a ++ (u ∷ [])) v b (e ∙ sym (append-assoc a (u ∷ []) (v ∷ b))) f) ]
     where
       x : Next u v
       x = neighbours a b e
 
       whole-word : u ≡ largest → Prefix (powerTo n u) (u ++ joined (v ∷ b))
-      whole-word f = prefix (joined (v ∷ b)) (ap (λ r. r ++ joined (v ∷ b)) (sym (power-whole (x .here-u) (ap length f ∙ largest-length))))
+      whole-word f = prefix (joined (v ∷ b)) (ap (λ r. r ++ joined (v ∷ b)) (sym (power-self (x .here-u .fit) (ap length f ∙ largest-length))))
 
       across : Tail u → Around-power u → Prefix (powerTo n v) (joined (v ∷ b)) → Prefix (powerTo n u) (u ++ joined (v ∷ b))
       across (tail p s c t i j l) (around-power q f g) r =
@@ -292,7 +260,7 @@ module _ (R : Setting) where
       ends : (p s : List ℕ) (a t : ℕ) → powerTo n u ≡ p ++ (a ∷ replicate t z) → u ≡ s ++ (a ∷ replicate t z) → a < z → (s : List ℕ) × (u ≡ s ++ replicate r z)
       ends p s a t e f l = elim (split (length g) (length p)) [
         | upto k ↦ absurd (j (prefix-trans (prefix-both i (seam x p a t e l) k) (prefix (a ∷ replicate t z) e)))
-        | over k ↦ enough (omega (arith, ap length e, length-append p (a ∷ replicate t z), length-replicate t z, power-length (x .here-u)))
+        | over k ↦ enough (omega (arith, ap length e, length-append p (a ∷ replicate t z), length-replicate t z, power-length (x .here-u .fit)))
       ]
         where
           enough : r ≤ t → (s : List ℕ) × (u ≡ s ++ replicate r z)

@@ -8,6 +8,11 @@ use Rattle.theory.proofs.Steps.{steps}
 use Rattle.theory.proofs.Rings.{rings, one-place}
 use Rattle.theory.proofs.Cursors.{ring-cursors, cursors}
 use Rattle.theory.proofs.Laying.{laid}
+use Rattle.theory.proofs.BySum.{summed}
+use Rattle.theory.proofs.Floors.{floors}
+use Rattle.theory.proofs.Ends.{ends, strip-ends, short-ends}
+use Rattle.theory.proofs.Sizes.{automaton}
+use Rattle.theory.proofs.Positions.{searched}
 
 pub theorems : Theorems
 theorems =
@@ -22,4 +27,11 @@ theorems =
       one-place = one-place;
       cursors = cursors;
       laid = laid;
+      summed = summed;
+      floors = floors;
+      ends = ends;
+      strip-ends = strip-ends;
+      short-ends = short-ends;
+      automaton = automaton;
+      searched = searched;
     }

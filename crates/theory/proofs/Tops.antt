@@ -1,5 +1,5 @@
 -- Words over 0 to z, z the last letter: how they end in letters z, and where Lyndon words stand to z.
-use mathlib.Core.Path.{_≡_, refl, sym, _∙_, ap, subst}
+use mathlib.Core.Path.{_≡_, refl, sym, _∙_, ap, ap₂, subst}
 use mathlib.Core.Bool.{true}
 use mathlib.Core.List.{List, List-discrete, [], _∷_, _++_, append-assoc, append-nil, head-eq-of-cons-eq, tail-eq-of-cons-eq, nil≢cons}
 use mathlib.Core.Logic.{_⊎_, inl, inr, _≢_}
@@ -34,6 +34,19 @@ top-of z (b ∷ w) h = step (top-of z w (marks-tail (suc z) b w h)) (cmp b z)
     step (top e) (less l) = under [] b (length w) (ap (λ r. b ∷ r) e) l
     step (top e) (equal l) = top (rw (l, ← e))
     step (top e) (more l) = absurd (omega (arith, marks-head (suc z) b w h))
+
+-- all letters z, or a smaller letter behind the first ones
+pub data Lead (z : ℕ) (w : List ℕ) : Type 0 where
+  all-top : w ≡ replicate (length w) z → Lead z w
+  lead : (j a : ℕ) (r : List ℕ) → w ≡ replicate j z ++ (a ∷ r) → a < z → Lead z w
+
+pub lead-of : (z : ℕ) (w : List ℕ) → marksOk (suc z) w ≡ true → Lead z w
+lead-of z [] h = all-top refl
+lead-of z (b ∷ w) h = elim (cmp b z) [ less l ↦ lead 0 b w refl l | equal l ↦ step l (lead-of z w (marks-tail (suc z) b w h)) | more l ↦ absurd (omega (arith, marks-head (suc z) b w h)) ]
+  where
+    step : b ≡ z → Lead z w → Lead z (b ∷ w)
+    step l (all-top e) = all-top (ap₂ _∷_ l e)
+    step l (lead j a r e i) = lead (suc j) a r (ap₂ _∷_ l e) i
 
 -- each letter of z z z .. is z
 pub replicate-mid : (t z : ℕ) (u : List ℕ) {a : ℕ} (r : List ℕ) → replicate t z ≡ u ++ (a ∷ r) → a ≡ z
@@ -72,6 +85,12 @@ no-higher m z [] h k l = elim-nil (replicate m z) l
 no-higher zero z (b ∷ y) h k l = absurd (omega arith)
 no-higher (suc m) z (b ∷ y) h k (now l) = omega (arith, marks-head (suc z) b y k)
 no-higher (suc m) z (b ∷ y) h k (later l) = no-higher m z y (omega arith) (marks-tail (suc z) b y k) l
+
+-- no word over k letters is above the word of k−1 alone
+pub top-le : (k n : ℕ) (x : List ℕ) → length x ≡ n → marksOk k x ≡ true → Le x (replicate n (k - 1))
+top-le zero n [] e m = empty
+top-le zero n (a ∷ x) e m = absurd (omega (arith, marks-head zero a x m))
+top-le (suc z) n x e m = subst (λ r. Le x (replicate n r)) (sym (one-less z)) (not-lt (no-higher n z x (omega arith) m))
 
 -- a Lyndon word other than z begins with a smaller letter, and is below z
 pub data Low (z : ℕ) (u : List ℕ) : Type 0 where

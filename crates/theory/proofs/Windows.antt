@@ -21,10 +21,11 @@ use Rattle.theory.proofs.Letters.{marks-left, marks-right, marks-append
 use Rattle.theory.proofs.Listed.{ring-words, ring-ascend}
 use Rattle.theory.proofs.Lyndon.{Lyndon, one-letter}
 use Rattle.theory.proofs.Powers.{repeated-length, repeated-snoc, Rot, rot, rot-sym, rot-length, Turn, turn, power-turn}
-use Rattle.theory.proofs.Necklaces.{smallest-rot, smallest-length, Base, base, base-of}
+use Rattle.theory.proofs.Necklaces.{smallest-rot, smallest-marks, smallest-length, Base, base, base-of}
 use Rattle.theory.proofs.Tops.{Top, top, under, top-of, replicate-mid, replicate-left, replicate-right, replicate-split, repeated-letter, Low, low, lyndon-low, low-below}
 use Rattle.theory.proofs.Reading.{modulo-small, modulo-full, letters-inside, letters-over}
 use Rattle.theory.proofs.Joined.{before-is}
+use Rattle.theory.proofs.Rotations.{power-is, power-length, power-self, Ring-base, ring-base, ring-base-of}
 use Rattle.theory.proofs.Seams.{Setting}
 use Rattle.theory.proofs.Seams as seams
 
@@ -129,7 +130,7 @@ module _ (R : Setting) where
   -- the power γ α of u is not that of the largest word, if its last letter below z stands behind γ, which is not empty
   not-largest : {u : List ℕ} (m : Member u) (p : List ℕ) (c t : ℕ) → powerTo n u ≡ p ++ (c ∷ replicate t z) → c < z → 0 < length p → u ≢ largest
   not-largest {u} m p c t x y q k =
-      nonempty p q (sym k ∙ sym (seams.power-whole R m (ap length k ∙ seams.largest-length R)) ∙ x)
+      nonempty p q (sym k ∙ sym (power-self (m .fit) (ap length k ∙ seams.largest-length R)) ∙ x)
     where
       nonempty : (p : List ℕ) → 0 < length p → largest ≡ p ++ (c ∷ replicate t z) → ⊥
       nonempty [] q r = omega arith
@@ -165,7 +166,7 @@ module _ (R : Setting) where
 
       γ-some : 0 < length γ
       γ-some =
-          omega (arith, length-append γ α, ap length f, seams.power-length R m, m .whole, suc-mul (m .times) (length u))
+          omega (arith, length-append γ α, ap length f, power-length (m .fit), m .fit .whole, suc-mul (m .fit .times) (length u))
 
       ends-in : seams.Around-power R u → (s : List ℕ) × (u ≡ s ++ α)
       ends-in (seams.around-power q j k) = elim (levi q u γ α (sym k ∙ f)) [ longer t x y ↦ absurd (omega (arith, ap length y, length-append t u)) | shorter t x y ↦ (t, y) ]
@@ -218,7 +219,7 @@ module _ (R : Setting) where
       ring-is = ap joined g ∙ joined-append a (m ∷ b)
 
       m-some : 0 < length (joined (m ∷ b))
-      m-some = omega (arith, length-append m (joined b), mm .lyndon .some)
+      m-some = omega (arith, length-append m (joined b), mm .fit .lyndon .some)
 
       ring-length : length Ring ≡ length (joined a) + length (joined (m ∷ b))
       ring-length = ap length ring-is ∙ length-append (joined a) (joined (m ∷ b))
@@ -256,7 +257,7 @@ module _ (R : Setting) where
           nb = seams.neighbours R c b (g ∙ ap (λ o. o ++ (m ∷ b)) i ∙ append-assoc c (v ∷ []) (m ∷ b))
 
           v-low : v ≢ z ∷ []
-          v-low o = lt-asym (subst (λ x. Lt x m) o (nb .smaller)) (low-below (lyndon-low z m (mm .lyndon) (mm .over-z) not-z))
+          v-low o = lt-asym (subst (λ x. Lt x m) o (nb .smaller)) (low-below (lyndon-low z m (mm .fit .lyndon) (mm .over-z) not-z))
 
       at : Prefix γ (joined (m ∷ b)) → (p : ℕ) × Spot w p × (modulo (p + r) (length Ring) ≡ beforeW m Words)
       at (prefix y j) = elim (split r 0) [ upto l ↦ whole l | over l ↦ front a refl l ]
@@ -270,25 +271,6 @@ module _ (R : Setting) where
           front [] o l = wrap y (ap joined o) j l
           front (x ∷ c) o l = let (c′, v, i) = unsnoc a (omega (arith, ap length o)) in in-front c′ v y i j
 
-  -- the word of the ring whose power is the smallest rotation
-  pub data Window-base (w : List ℕ) : Type 0 where
-    window-base : (u : List ℕ) → In u Words → powerTo n u ≡ smallest w → root w ≡ length u → Window-base w
-
-  pub window-base-of : (w : List ℕ) → length w ≡ n → marksOk (suc z) w ≡ true → ok (root w) ≡ true → Window-base w
-  window-base-of w h k a = elim (base-of w (omega arith)) [ base u e l f g ↦ at u e l f g (smallest-rot w) ]
-    where
-      at : (u : List ℕ) (e : ℕ) → Lyndon u → smallest w ≡ repeated (suc e) u → root w ≡ length u → Rot w (smallest w) → Window-base w
-      at u e l f g (rot x y i j) = window-base u (seams.in-ring R l (marks-left (suc z) u (repeated e u) (rw f at marks)) (ap ok (sym g) ∙ a)) (ap (λ r. repeated r u) count ∙ sym f) g
-        where
-          parts-ok : marksOk (suc z) (x ++ y) ≡ true
-          parts-ok = rw i at k
-
-          marks : marksOk (suc z) (smallest w) ≡ true
-          marks = rw j (marks-append (suc z) y x (marks-right (suc z) x y parts-ok) (marks-left (suc z) x y parts-ok))
-
-          count : n / length u ≡ suc e
-          count = ap (λ r. r / length u) (sym h ∙ sym (smallest-length w) ∙ ap length f ∙ repeated-length (suc e) u) ∙ mul-div-cancel (suc e) (l .some)
-
   -- its turn: less than the word's length
   pub data Window-turn (w u : List ℕ) : Type 0 where
     window-turn : (α γ : List ℕ) → w ≡ α ++ γ → powerTo n u ≡ γ ++ α → length α < length u → Window-turn w u
@@ -300,21 +282,21 @@ module _ (R : Setting) where
       m = member i
 
       at : Rot w (smallest w) → Window-turn w u
-      at (rot x y f g) = from (power-turn (suc (length y)) u y x (m .times) (omega arith) (m .lyndon .some) (sym (seams.power-is R m) ∙ e ∙ g))
+      at (rot x y f g) = from (power-turn (suc (length y)) u y x (m .fit .times) (omega arith) (m .fit .lyndon .some) (sym (power-is (m .fit)) ∙ e ∙ g))
         where
-          from : Turn u (x ++ y) (m .times) → Window-turn w u
-          from (turn [] q j l o) = window-turn [] w refl (seams.power-is R m ∙ ap (λ r. r ++ repeated (m .times) u) j ∙ sym (ap (λ r. q ++ r) (append-nil (repeated (m .times) u))) ∙ sym o ∙ sym f ∙ sym (append-nil w)) (m .lyndon .some)
-          from (turn (c ∷ p) q j l o) = window-turn q (repeated (m .times) u ++ (c ∷ p)) (f ∙ o) (seams.power-is R m ∙ sym (repeated-snoc (m .times) u) ∙ ap (λ r. repeated (m .times) u ++ r) j ∙ sym (append-assoc (repeated (m .times) u) (c ∷ p) q)) (omega (arith, ap length j, length-append (c ∷ p) q))
+          from : Turn u (x ++ y) (m .fit .times) → Window-turn w u
+          from (turn [] q j l o) = window-turn [] w refl (power-is (m .fit) ∙ ap (λ r. r ++ repeated (m .fit .times) u) j ∙ sym (ap (λ r. q ++ r) (append-nil (repeated (m .fit .times) u))) ∙ sym o ∙ sym f ∙ sym (append-nil w)) (m .fit .lyndon .some)
+          from (turn (c ∷ p) q j l o) = window-turn q (repeated (m .fit .times) u ++ (c ∷ p)) (f ∙ o) (power-is (m .fit) ∙ sym (repeated-snoc (m .fit .times) u) ∙ ap (λ r. repeated (m .fit .times) u ++ r) j ∙ sym (append-assoc (repeated (m .fit .times) u) (c ∷ p) q)) (omega (arith, ap length j, length-append (c ∷ p) q))
 
   -- every window is read somewhere
   pub some-spot : (w : List ℕ) → length w ≡ n → marksOk (suc z) w ≡ true → ok (root w) ≡ true → (p : ℕ) × Spot w p
-  some-spot w h k a = elim (window-base-of w h k a) [ window-base u i e f ↦ elim (window-turn-of w u i e) [ window-turn α γ g j l ↦ by-case u i e f α γ g j l (List-discrete ℕ-discrete w (replicate n z)) (List-discrete ℕ-discrete α (replicate (length α) z)) ] ]
+  some-spot w h k a = elim (ring-base-of ok (suc z) n some allowed w h k a) [ ring-base u i e f ↦ elim (window-turn-of w u i (sym e)) [ window-turn α γ g j l ↦ by-case u i (sym e) f α γ g j l (List-discrete ℕ-discrete w (replicate n z)) (List-discrete ℕ-discrete α (replicate (length α) z)) ] ]
     where
       by-case : (u : List ℕ) → In u Words → powerTo n u ≡ smallest w → root w ≡ length u → (α γ : List ℕ) → w ≡ α ++ γ → powerTo n u ≡ γ ++ α → length α < length u
           → Dec (w ≡ replicate n z) → Dec (α ≡ replicate (length α) z) → (p : ℕ) × Spot w p
       by-case u i e f α γ g j l (yes t) c = elim (List-discrete ℕ-discrete u (z ∷ [])) [
         | yes q ↦ let r = top-spot (ap ok (sym (ap length q) ∙ sym f) ∙ a) in (r .0, subst (λ x. Spot x (r .0)) (sym t) (r .1))
-        | no q ↦ absurd (all-z (lyndon-low z u (member i .lyndon) (member i .over-z) q) (seams.power-parts R (member i)))
+        | no q ↦ absurd (all-z (lyndon-low z u (member i .fit .lyndon) (member i .over-z) q) (seams.power-parts R (member i)))
       ]
         where
           power-z : powerTo n u ≡ replicate (length γ + length α) z
@@ -331,7 +313,7 @@ module _ (R : Setting) where
           fits v = same (take (length γ) (powerTo n v)) γ
 
           γ-some : 0 < length γ
-          γ-some = omega (arith, length-append γ α, ap length j, seams.power-length R (member i), member i .whole, suc-mul (member i .times) (length u))
+          γ-some = omega (arith, length-append γ α, ap length j, power-length (member i .fit), member i .fit .whole, suc-mul (member i .fit .times) (length u))
 
           at : (b : List (List ℕ)) (m : List ℕ) (d : List (List ℕ)) → Words ≡ b ++ (m ∷ d) → fits m ≡ true → ((y : List ℕ) → In y b → fits y ≡ false) → (p : ℕ) × Spot w p
           at b m d o x y =

@@ -2,6 +2,9 @@
 pub mod Words
 pub mod Lists
 pub mod Sums
+pub mod Floors
+pub mod Automaton
+pub mod Search
 pub mod Rings
 pub mod Steps
 pub mod Strips

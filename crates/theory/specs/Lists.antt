@@ -1,4 +1,4 @@
--- Members of a list; lists of words in dictionary order, each word once.
+-- Members of a list; lists without repeats; lists of words in dictionary order, each word once.
 use mathlib.Core.Path.{_≡_}
 use mathlib.Core.Bool.{true}
 use mathlib.Core.List.{List, [], _∷_}
@@ -12,3 +12,8 @@ pub data In {A : Type 0} (x : A) : List A → Type 0 where
 abbrev pub Ascending : List (List ℕ) → Type 0
 Ascending [] = Unit {0}
 Ascending (w ∷ ws) = ((v : List ℕ) → In v ws → below w v ≡ true) × Ascending ws
+
+-- no member twice
+abbrev pub Once : {A : Type 0} → List A → Type 0
+Once [] = Unit {0}
+Once (x ∷ xs) = (¬ In x xs) × Once xs

@@ -3,7 +3,7 @@ use mathlib.Core.Path.{_≡_}
 use mathlib.Core.Bool.{Bool, true, false, _&&_, _||_, not}
 use mathlib.Core.List.{List, [], _∷_, _++_}
 use lib.IntN.{ℤ, pos, negsuc}
-use Prim.Native.Nat.{ℕ, zero, suc, _+_, _-_, _*_, _/_, _%_, _≤_}
+use Prim.Native.Nat.{ℕ, zero, suc, _+_, _-_, _*_, _/_, _%_, _^_, _≤_}
 use lib.Dec.{eqb, ltb, leb}
 use lib.ListN.{length, take}
 use Rattle.theory.specs.Words.{pick, same, upTo, smallest, keep, allWords, rank, marksOk}
@@ -56,3 +56,22 @@ abbrev pub By-sum : Type 0
 By-sum =
     (k : ℕ) (w : List ℕ) → 2 ≤ k → marksOk k w ≡ true → 1 ≤ length w → same (smallest w) w ≡ true
     → pos (length w * rank k w) ≡ sumFrom (length w) 1 k w
+
+-- the divisors of n, smallest first; a running sum over a list
+abbrev pub countFrom : ℕ → ℕ → List ℕ
+countFrom zero d = []
+countFrom (suc l) d = d ∷ countFrom l (suc d)
+
+abbrev pub divisors : ℕ → List ℕ
+divisors n = keep (λ d. eqb (n % d) 0) (countFrom n 1)
+
+abbrev pub running : (ℕ → ℤ) → ℤ → List ℕ → ℤ
+running f a [] = a
+running f a (d ∷ ds) = running f (plus a (f d)) ds
+
+-- the term of a divisor in the sum for a rank, and in the sum for the number of Lyndon words
+abbrev pub rankTerm : ℕ → List ℕ → ℕ → ℤ
+rankTerm k w d = scaled (mobius (length w / d)) (cs k (take d w))
+
+abbrev pub countTerm : ℕ → ℕ → ℕ → ℤ
+countTerm k n d = scaled (mobius (n / d)) (k ^ d)

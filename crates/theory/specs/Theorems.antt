@@ -1,12 +1,18 @@
 -- What is proved of the definitions, for every k and n that the hypotheses name. `Theorems`, at the end, is the whole.
 use mathlib.Core.Path.{_≡_}
-use mathlib.Core.Bool.{Bool, true, false}
+use mathlib.Core.Bool.{Bool, true, false, _&&_}
 use mathlib.Core.List.{List, [], _∷_, _++_}
 use mathlib.Core.Logic.{_↔_, _≢_}
 use Prim.Native.Nat.{ℕ, suc, _+_, _-_, _*_, _/_, _^_, _≤_, _<_}
-use lib.ListN.{length, take, drop, replicate}
-use Rattle.theory.specs.Words.{same, below, upTo, turned, isLyndon, smallest, repeated, root, allWords, keep, lyndons, howMany, rank, wordOf, marksOk}
-use Rattle.theory.specs.Lists.{In, Ascending}
+use lib.IntN.{ℤ, pos, natAbs}
+use lib.Dec.{eqb, ltb, leb}
+use lib.ListN.{length, getD, take, drop, replicate}
+use Rattle.theory.specs.Words.{pick, same, below, upTo, turned, isLyndon, smallest, repeated, root, allWords, keep, lyndons, howMany, rank, wordOf, marksOk}
+use Rattle.theory.specs.Lists.{In, Ascending, Once}
+use Rattle.theory.specs.Sums.{cs, mobius, divisors, running, rankTerm, countTerm, By-sum}
+use Rattle.theory.specs.Floors.{isNecklace, necklaceUpTo, necklaceBelow, floorFrom}
+use Rattle.theory.specs.Automaton.{run, returning, pathsTo}
+use Rattle.theory.specs.Search.{leastWord}
 use Rattle.theory.specs.Rings.{upWords, lyndonsUp, divides, Allowed, ringWords, ring, modulo, letterOn, lettersOn, findOn, Cursor, goodOn, beforeW, positionOn, cursorOn, stepOn, readOn}
 use Rattle.theory.specs.Steps.{extension, nextLyndon, previousLyndon, period}
 use Rattle.theory.specs.Strips.{admitted, stripWords, strip, markAt, marksFrom, window, placeOf, cursorOk, placeIn, cursorAt, stepOf}
@@ -142,6 +148,70 @@ Laid =
     → let w = window (shades s) (marks s) (nthS (sections s) i .offset + d) in
     (lookupFault s w ≡ 0) × (layingOf s w ≡ suc i) × (distanceOf s w ≡ d)
 
+-- The sums of document 004, section 3: Möbius values over the divisors, the rank (Lemma 9) and the number of Lyndon words; the order
+-- of summation does not matter, and no running sum is large.
+pub record Summed : Type 0 where
+  pub mobius-sum : (n : ℕ) → 1 ≤ n → running mobius (pos 0) (divisors n) ≡ pick (eqb n 1) (pos 1) (pos 0)
+  pub any-order : (f : ℕ → ℤ) (a : ℤ) (ds es : List ℕ) → Once ds → Once es → ((d : ℕ) → In d ds ↔ In d es) → running f a ds ≡ running f a es
+  pub by-sum : By-sum
+  pub by-divisors : (k : ℕ) (w : List ℕ) → 1 ≤ length w → smallest w ≡ w
+      → pos (length w * rank k w) ≡ running (rankTerm k w) (pos 0) (divisors (length w))
+  pub count-sum : (k n : ℕ) → 1 ≤ n → pos (n * howMany k n) ≡ running (countTerm k n) (pos 0) (divisors n)
+  pub rank-small : (k : ℕ) (w : List ℕ) (ds : List ℕ) → 2 ≤ k → 1 ≤ length w → Once ds → ((d : ℕ) → In d ds → In d (divisors (length w)))
+      → natAbs (running (rankTerm k w) (pos 0) ds) ≤ 2 * k ^ length w
+  pub count-small : (k n : ℕ) (ds : List ℕ) → 2 ≤ k → 1 ≤ n → Once ds → ((d : ℕ) → In d ds → In d (divisors n))
+      → natAbs (running (countTerm k n) (pos 0) ds) ≤ 2 * k ^ n
+
+-- The largest necklace not above a word (document 004, Lemma 5), and below it; what it is for; the rule that computes it.
+pub record Floors : Type 0 where
+  pub floor-is : (k : ℕ) (w : List ℕ) → marksOk k w ≡ true
+      → let v = necklaceUpTo k w in (length v ≡ length w) × (marksOk k v ≡ true) × (smallest v ≡ v) × (upTo v w ≡ true)
+  pub floor-largest : (k : ℕ) (w u : List ℕ) → length u ≡ length w → marksOk k u ≡ true → smallest u ≡ u → upTo u w ≡ true
+      → upTo u (necklaceUpTo k w) ≡ true
+  pub floor-cs : (k : ℕ) (w : List ℕ) → marksOk k w ≡ true → cs k (necklaceUpTo k w) ≡ cs k w
+  pub floor-rank : (k : ℕ) (w : List ℕ) → marksOk k w ≡ true → rank k (necklaceUpTo k w) ≡ rank k w
+  pub floor-rule : (k : ℕ) (w : List ℕ) → marksOk k w ≡ true → necklaceUpTo k w ≡ pick (isNecklace w) w (floorFrom k w (length w))
+  pub below-rule : (k : ℕ) (w : List ℕ) → marksOk k w ≡ true → necklaceBelow k w ≡ floorFrom k w (length w)
+
+-- Where a ring's word ends (document 004, Lemma 22): as many letters as there are words not above its power.
+pub record Ends (ok : ℕ → Bool) (k n : ℕ) : Type 0 where
+  pub ring-end : (u : List ℕ) → In u (ringWords ok k n)
+      → beforeW u (ringWords ok k n) + length u ≡ length (keep (λ x. ok (root x) && upTo (smallest x) (powerTo n u)) (allWords k n))
+
+abbrev pub Strip-ends : Type 0
+Strip-ends = (k n : ℕ) (u : List ℕ) → 1 ≤ n → In u (stripWords k n) → beforeW u (stripWords k n) + length u ≡ cs k (powerTo n u)
+
+abbrev pub Short-ends : Type 0
+Short-ends =
+    (k n : ℕ) (u : List ℕ) → 1 ≤ n → In u (ringWords (λ d. eqb d n) k n)
+    → beforeW u (ringWords (λ d. eqb d n) k n) + length u ≡ n * rank k u
+
+-- The automaton (document 004, section 4): x is in CS(w) just when x x is accepted (Facts 11 and 12); the numbers of its paths by a
+-- recurrence; and from one table of these the size of CS of every prefix.
+pub record Automaton : Type 0 where
+  pub accepts : (w x : List ℕ) → smallest w ≡ w → length x ≡ length w → upTo (smallest x) w ≡ same (run w w (x ++ x)) []
+  pub home : (k : ℕ) (w : List ℕ) → returning k w 0 0 ≡ 1
+  pub away : (k : ℕ) (w : List ℕ) (s : ℕ) → 0 < s → s ≤ length w → returning k w s 0 ≡ 0
+  pub step : (k : ℕ) (w : List ℕ) (s l : ℕ) → marksOk k w ≡ true → s < length w
+      → returning k w s (suc l) ≡ returning k w (suc s) l + (k - 1 - getD w s 0) * returning k w 0 l
+  pub small : (k : ℕ) (w : List ℕ) (s l : ℕ) → returning k w s l ≤ k ^ l
+  pub sizes : (k : ℕ) (w t : List ℕ) (d : ℕ) → smallest (w ++ t) ≡ w ++ t → marksOk k w ≡ true → 1 ≤ d → d ≤ length w
+      → cs k (take d w) + pathsTo k w d d ≡ k ^ d
+  pub cs-small : (k : ℕ) (w : List ℕ) → cs k w ≤ k ^ length w
+
+-- Words found letter by letter: the word of an index by ranks, the word at a position by sizes of CS.
+pub record Searched : Type 0 where
+  pub least-word : (k n : ℕ) (test : List ℕ → Bool) → 1 ≤ k
+      → ((u v : List ℕ) → length u ≡ n → length v ≡ n → marksOk k u ≡ true → marksOk k v ≡ true → upTo u v ≡ true → test u ≡ true → test v ≡ true)
+      → test (replicate n (k - 1)) ≡ true
+      → let w = leastWord k test [] n in
+      (length w ≡ n) × (marksOk k w ≡ true) × (test w ≡ true)
+      × ((u : List ℕ) → length u ≡ n → marksOk k u ≡ true → test u ≡ true → upTo w u ≡ true)
+  pub by-rank : (k n i : ℕ) → 1 ≤ k → 1 ≤ i → i ≤ howMany k n → leastWord k (λ w. leb i (rank k w)) [] n ≡ wordOf k n i
+  pub by-cs : (k n p : ℕ) → 2 ≤ k → 1 ≤ n → p < k ^ n
+      → let w = leastWord k (λ w. ltb p (cs k w)) [] n in
+      (smallest w ≡ w) × (take (root w) w ≡ cursorAt k n p .word) × (cs k w ≡ beforeW (take (root w) w) (stripWords k n) + root w)
+
 pub record Theorems : Type 0 where
   pub marked : Marked
   pub listed : Listed
@@ -153,3 +223,10 @@ pub record Theorems : Type 0 where
   pub one-place : One-place
   pub cursors : Cursors
   pub laid : Laid
+  pub summed : Summed
+  pub floors : Floors
+  pub ends : (ok : ℕ → Bool) (k n : ℕ) → 1 ≤ n → Allowed n ok → Ends ok k n
+  pub strip-ends : Strip-ends
+  pub short-ends : Short-ends
+  pub automaton : Automaton
+  pub searched : Searched
