@@ -140,7 +140,7 @@ less-small a b c h k = elim (split b a) [
   | over l ↦ rw (less-down a b l) (omega arith)
 ]
 
-terms-small : (k n : ℕ) (c : ℕ → ℕ) (ds : List ℕ) → 2 ≤ k → 1 ≤ n → Once ds → ((d : ℕ) → In d ds → In d (divisors n)) → ((d : ℕ) → d ≤ n → c d ≤ k ^ d)
+pub terms-small : (k n : ℕ) (c : ℕ → ℕ) (ds : List ℕ) → 2 ≤ k → 1 ≤ n → Once ds → ((d : ℕ) → In d ds → In d (divisors n)) → ((d : ℕ) → d ≤ n → c d ≤ k ^ d)
     → natAbs (running (λ d. scaled (mobius (n / d)) (c d)) (pos 0) ds) ≤ 2 * k ^ n
 terms-small k n c ds h s o i small =
     rw (from-zero (λ d. scaled (mobius (n / d)) (c d)) (λ d. plusOne (n / d) * c d) (λ d. minusOne (n / d) * c d) ds (λ d j. scaled-is (n / d) (c d)))

@@ -4,7 +4,7 @@ use mathlib.Core.List.{List, [], _∷_, _++_}
 use Prim.Native.Nat.{ℕ, zero, suc, _-_}
 use lib.Dec.{ltb}
 use lib.ListN.{length, take, drop, replicate}
-use Rattle.theory.specs.Words.{pick, same, repeated}
+use Rattle.theory.specs.Words.{pick, same, isLyndon, repeated}
 
 -- the first m letters of u u u ..: document 003's m-extension of u
 abbrev pub extension : ℕ → List ℕ → List ℕ
@@ -31,6 +31,10 @@ periodFrom (suc l) d w = elim (same (drop d w) (take (length w - d) w)) [ true �
 
 abbrev pub period : List ℕ → ℕ
 period w = periodFrom (length w) 1 w
+
+-- the length of the Lyndon word that w extends; 0 if w extends none, so that it is no prenecklace
+abbrev pub prePeriod : List ℕ → ℕ
+prePeriod w = pick (isLyndon (take (period w) w)) (period w) 0
 
 -- the word before y: y with its last letter lowered, filled up with k−1 to length n, is its extension
 abbrev pub previousLyndon : ℕ → ℕ → List ℕ → List ℕ

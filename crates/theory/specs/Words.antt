@@ -60,6 +60,14 @@ leastFrom (suc l) i w best = let t = turned i w in leastFrom l (suc i) w (pick (
 abbrev pub smallest : List ℕ → List ℕ
 smallest w = leastFrom (length w - 1) 1 w w
 
+-- the least turn that gives it
+abbrev pub turnFrom : ℕ → ℕ → List ℕ → ℕ → ℕ
+turnFrom zero i w b = b
+turnFrom (suc l) i w b = turnFrom l (suc i) w (pick (below (turned i w) (turned b w)) i b)
+
+abbrev pub leastTurn : List ℕ → ℕ
+leastTurn w = turnFrom (length w - 1) 1 w 0
+
 -- the length of the shortest word that, repeated, gives the word
 abbrev pub repeated : ℕ → List ℕ → List ℕ
 repeated zero u = []

@@ -1,0 +1,2 @@
+-- Laws of powers under the limit.
+pub mod Powers

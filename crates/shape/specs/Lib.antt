@@ -1,0 +1,2 @@
+-- What the power and the strip's constructor answer.
+pub mod Shapes

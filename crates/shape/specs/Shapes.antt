@@ -1,0 +1,25 @@
+-- The power and the strip, as definitions: the value of k^n up to the limit, the strip of an admitted k and n.
+use mathlib.Core.Bool.{Bool, true, false}
+use Prim.Native.Nat.{ℕ, _^_}
+use lib.Dec.{leb}
+use Rattle.theory.specs.Strips.{admitted}
+use Rattle.shape.specs.declared.Power.{Power}
+use Rattle.shape.specs.declared.Power.the-variants.{Is, Large}
+use Rattle.shape.specs.declared.Made.{Made}
+use Rattle.shape.specs.declared.Made.the-variants.{Fine, Refused}
+
+abbrev pub pickPower : Bool → Power → Power → Power
+pickPower true a b = a
+pickPower false a b = b
+
+-- k^n, unless it passes 2^60
+abbrev pub powerOf : ℕ → ℕ → Power
+powerOf k n = pickPower (leb (k ^ n) (2 ^ 60)) (Is (k ^ n)) Large
+
+abbrev pub pickMade : Bool → Made → Made → Made
+pickMade true a b = a
+pickMade false a b = b
+
+-- the strip of k and n, if it is admitted
+abbrev pub madeOf : ℕ → ℕ → Made
+madeOf k n = pickMade (admitted k n) (Fine (record { k = k; n = n; size = k ^ n })) Refused
