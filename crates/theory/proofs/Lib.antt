@@ -40,5 +40,6 @@ pub mod Sizes
 pub mod Floors
 pub mod Search
 pub mod Positions
+pub mod Digits
 pub mod Marked
 pub mod Theorems

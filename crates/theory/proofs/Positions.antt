@@ -2,6 +2,7 @@
 use mathlib.Core.Path.{_≡_, refl, sym, _∙_, ap, ap₂, subst}
 use mathlib.Core.Bool.{Bool, true}
 use mathlib.Core.List.{List, [], _∷_, _++_, append-assoc, append-nil}
+use mathlib.Core.Logic.{_↔_}
 use Prim.Native.Nat.{ℕ, zero, suc, _+_, _-_, _/_, _^_, _≤_, _<_}
 use native.Mathlib.Omega.{arith}
 use native.Mathlib.Nat.{mul-div-cancel}
@@ -134,6 +135,13 @@ module _ (z n p : ℕ) (h : 0 < z) (s : 0 < n) (inside : p < suc z ^ n) where
             g ∙ sym (ap (λ x. cursorAt (suc z) n x .word) (sym q) ∙ ap (λ c. c .word) (word-at (stripWords (suc z) n) (ring-ascend (divisorOf n) (suc z) n) (suc z) n u (p - beforeW u (stripWords (suc z) n)) i (omega arith))),
             sym ends ∙ ap₂ (λ x y. beforeW x (stripWords (suc z) n) + y) (sym g) (sym f),
           )
+
+  -- sizes of CS reach the position just at that word
+  pub cs-reaches : {w : List ℕ} → length w ≡ n → marksOk (suc z) w ≡ true → (p < cs (suc z) w) ↔ Le word w
+  cs-reaches {w} e m = (
+    λ h. least-past .least w (record { long = e; marks = m; pass = lt-ltb p _ h }),
+    λ l. omega (arith, ltb-true p _ (least-past .passes .pass), cs-mono (suc z) (least-past .passes .long ∙ sym e) l),
+  )
 
 pub by-cs : (k n p : ℕ) → 2 ≤ k → 1 ≤ n → p < k ^ n
     → let w = leastWord k (λ w. ltb p (cs k w)) [] n in
