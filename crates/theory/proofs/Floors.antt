@@ -52,7 +52,7 @@ zeros-necklace n u v e = eq-le (e ∙ swap)
         ap₂ _++_ p q ∙ lib.ListN.replicate-append-replicate (length u) (length v) 0 ∙ ap (λ r. replicate r 0) (native.Mathlib.Nat.add-comm (length u) (length v))
         ∙ sym (lib.ListN.replicate-append-replicate (length v) (length u) 0) ∙ sym (ap₂ _++_ q p)
 
-zeros-le : (w : List ℕ) → Le (replicate (length w) 0) w
+pub zeros-le : (w : List ℕ) → Le (replicate (length w) 0) w
 zeros-le [] = empty
 zeros-le (a ∷ w) = elim (cmp 0 a) [ less l ↦ sooner l | equal l ↦ subst (λ r. Le (0 ∷ replicate (length w) 0) (r ∷ w)) l (further (zeros-le w)) | more l ↦ absurd (omega arith) ]
 

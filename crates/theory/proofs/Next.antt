@@ -24,7 +24,7 @@ use Rattle.theory.proofs.Listed.{lyndon-up-words}
 use Rattle.theory.proofs.Tops.{Top, top, under, top-of, replicate-mid, Low, low, lyndon-low}
 
 -- what the specification's `raised` does: nothing is left of z .. z; p a z .. z becomes p (a+1)
-top-raised : (z t : ℕ) → raised (suc z) (replicate t z) ≡ []
+pub top-raised : (z t : ℕ) → raised (suc z) (replicate t z) ≡ []
 top-raised z zero = refl
 top-raised z (suc t) = rw (top-raised z t, le-ltb (suc z) (suc z) (omega arith))
 

@@ -1,0 +1,6 @@
+-- Laws behind the proofs of the functions.
+pub mod Tables
+pub mod Signed
+pub mod Passed
+pub mod Turns
+pub mod Raised

@@ -1,0 +1,2 @@
+-- What the signed sum asks.
+pub mod Summands
