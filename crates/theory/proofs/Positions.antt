@@ -149,5 +149,15 @@ pub by-cs : (k n p : ℕ) → 2 ≤ k → 1 ≤ n → p < k ^ n
 by-cs zero n p h s i = absurd (omega arith)
 by-cs (suc z) n p h s i = word-at-place z n p (omega arith) s i
 
+-- the same for every k ≥ 2
+pub word-fits : (k n p : ℕ) → 2 ≤ k → 1 ≤ n → p < k ^ n → let w = leastWord k (λ w. ltb p (cs k w)) [] n in (length w ≡ n) × (marksOk k w ≡ true)
+word-fits zero n p h s i = absurd (omega arith)
+word-fits (suc z) n p h s i = let r = least-past z n p (omega arith) s i in (r .passes .long, r .passes .marks)
+
+pub cs-reached : (k n p : ℕ) {w : List ℕ} → 2 ≤ k → 1 ≤ n → p < k ^ n → length w ≡ n → marksOk k w ≡ true
+    → (p < cs k w) ↔ Le (leastWord k (λ w. ltb p (cs k w)) [] n) w
+cs-reached zero n p h s i e m = absurd (omega arith)
+cs-reached (suc z) n p h s i e m = cs-reaches z n p (omega arith) s i e m
+
 pub searched : Searched
 searched = record { least-word = least-word; by-rank = by-rank; by-cs = by-cs }

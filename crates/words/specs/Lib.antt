@@ -1,0 +1,2 @@
+-- What the moves on words ask and answer.
+pub mod Moves
