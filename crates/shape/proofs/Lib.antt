@@ -1,2 +1,3 @@
--- Laws of powers under the limit.
+-- Laws of powers under the limit, and the limits of a strip.
 pub mod Powers
+pub mod Limits

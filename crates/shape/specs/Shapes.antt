@@ -1,8 +1,13 @@
 -- The power and the strip, as definitions: the value of k^n up to the limit, the strip of an admitted k and n.
+use mathlib.Core.Path.{_≡_}
 use mathlib.Core.Bool.{Bool, true, false}
+use mathlib.Core.List.{List}
 use Prim.Native.Nat.{ℕ, _^_}
 use lib.Dec.{leb}
+use lib.ListN.{length}
+use Rattle.theory.specs.Words.{marksOk}
 use Rattle.theory.specs.Strips.{admitted}
+use Rattle.shape.specs.declared.Strip as DS
 use Rattle.shape.specs.declared.Power.{Power}
 use Rattle.shape.specs.declared.Power.the-variants.{Is, Large}
 use Rattle.shape.specs.declared.Made.{Made}
@@ -23,3 +28,14 @@ pickMade false a b = b
 -- the strip of k and n, if it is admitted
 abbrev pub madeOf : ℕ → ℕ → Made
 madeOf k n = pickMade (admitted k n) (Fine (record { k = k; n = n; size = k ^ n })) Refused
+
+-- a strip as its constructor makes it
+pub record Shaped (s : DS.Strip) : Type 0 where
+  pub admit : admitted (s .k) (s .n) ≡ true
+  pub size : s .size ≡ s .k ^ s .n
+
+-- a word of n letters of the strip
+pub record WordOn (s : DS.Strip) (w : List ℕ) : Type 0 where
+  pub shaped : Shaped s
+  pub long : length w ≡ s .n
+  pub marks : marksOk (s .k) w ≡ true
