@@ -27,5 +27,5 @@ limits {s} h =
       most = leb-true (s .k) 36 (and-l _ _ b);
       some = leb-true 1 (s .n) (and-l _ _ c);
       short = leb-true (s .n) 60 (and-l _ _ d);
-      range = leb-true (s .k ^ s .n) (2 ^ 60) (and-r (leb (s .n) 60) _ d)
+      range = leb-true (s .k ^ s .n) (2 ^ 60) (and-r (leb (s .n) 60) _ d);
     }

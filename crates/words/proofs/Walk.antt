@@ -14,9 +14,9 @@ use borrow.Author.Tests.{eqb-true, eq-eqb}
 use Rattle.theory.specs.Words.{pick, same, isLyndon, repeated}
 use Rattle.theory.specs.Steps.{periodFrom, period, prePeriod}
 use Rattle.theory.specs.Floors.{isNecklace}
-use Rattle.theory.proofs.Base.{test, same-test, cmp, less, equal, more, nil-of, cancel-left}
+use Rattle.theory.proofs.Base.{test, same-test, Cmp, cmp, less, equal, more, nil-of, cancel-left}
 use Rattle.theory.proofs.Order.{Cut, Prefix, prefix, same-eq, eq-same, cut-append, cut-at-letter, prefix-append}
-use Rattle.theory.proofs.Lyndon.{Prenecklace, Lyndon, Necklace, lyndon-in, lyndon-out, one-letter, pre-prefix, raise-last}
+use Rattle.theory.proofs.Lyndon.{Prenecklace, Lyndon, Necklace, lyndon-in, lyndon-out, lyndon-pre, one-letter, pre-prefix, raise-last}
 use Rattle.theory.proofs.Powers.{repeated-length, Extends, extends, extends-self, extends-power, Behind, behind, extends-long}
 use Rattle.theory.proofs.Necklaces.{lyndon-extends-pre, power-necklace, necklace-power, power}
 use Rattle.theory.proofs.Steps.{period-is, first-period}
@@ -192,11 +192,28 @@ module _ (w : List ℕ) (p i : ℕ) (inside : i < length w) where
       raised : (b : ℕ) → b ≡ getD w (i - p) 0 → Lyndon (take i w ++ (getD w i 0 ∷ [])) → Walked w (i + 1) (i + 1)
       raised b e k = walked (take (i + 1) w) (subst Lyndon (sym longer) k) (extends-self (take (i + 1) w)) (length-take-le (i + 1) w (omega arith)) (omega arith)
 
+  -- the next letter of a prenecklace is not below the one a period back; and each letter that is not makes one
+  pub walk-least : Walked w p i → Prenecklace w → getD w (i - p) 0 ≤ getD w i 0
+  walk-least (walked x l e n h) k = elim (next-letter l e (omega (arith, size))) [ next b t f g ↦ at b t f (back l n h g) (cmp (getD w i 0) b) ]
+    where
+      begins : Prenecklace (take i w ++ (getD w i 0 ∷ []))
+      begins = pre-prefix (take i w ++ (getD w i 0 ∷ [])) (drop (suc i) w) (subst Prenecklace (split-at w i 0 inside ∙ sym (append-assoc (take i w) (getD w i 0 ∷ []) (drop (suc i) w))) k)
+
+      at : (b : ℕ) (t : List ℕ) → x ++ take i w ≡ take i w ++ (b ∷ t) → b ≡ getD w (i - p) 0 → Cmp (getD w i 0) b → getD w (i - p) 0 ≤ getD w i 0
+      at b t f g (less q) = absurd (falls (getD w i 0) t f q (extends-long e (omega (arith, size))) begins)
+      at b t f g (equal q) = omega arith
+      at b t f g (more q) = omega arith
+
+  pub walk-open : Walked w p i → (c : ℕ) → getD w (i - p) 0 ≤ c → Prenecklace (take i w ++ (c ∷ []))
+  walk-open (walked x l e n h) c q = elim (next-letter l e (omega (arith, size))) [ next b t f g ↦ at b (lyndon-extends-pre l (keeps (take i w) b t f)) (back l n h g) (cmp b c) ]
+    where
+      at : (b : ℕ) → Prenecklace (take i w ++ (b ∷ [])) → b ≡ getD w (i - p) 0 → Cmp b c → Prenecklace (take i w ++ (c ∷ []))
+      at b k g (less r) = lyndon-pre (raise-last (take i w) b c k r)
+      at b k g (equal r) = subst (λ y. Prenecklace (take i w ++ (y ∷ []))) r k
+      at b k g (more r) = absurd (omega arith)
+
   pub walk-fall : Walked w p i → getD w i 0 < getD w (i - p) 0 → prePeriod w ≡ 0
-  walk-fall (walked x l e n h) q = elim (next-letter l e (omega (arith, size))) [
-    | next b t f g ↦ pre-period-none w (λ k. falls (getD w i 0) t f (omega (arith, back l n h g)) (extends-long e (omega (arith, size)))
-        (pre-prefix (take i w ++ (getD w i 0 ∷ [])) (drop (suc i) w) (subst Prenecklace (split-at w i 0 inside ∙ sym (append-assoc (take i w) (getD w i 0 ∷ []) (drop (suc i) w))) k)))
-  ]
+  walk-fall h q = pre-period-none w (λ k. omega (arith, walk-least h k))
 
 pub walk-end : (w : List ℕ) (p i : ℕ) → i ≡ length w → Walked w p i → prePeriod w ≡ p
 walk-end w p i q (walked x l e n h) =

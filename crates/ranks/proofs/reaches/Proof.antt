@@ -1,0 +1,37 @@
+-- `ranks::reaches` tells whether a word is at or past the one searched for.
+use mathlib.Core.Path.{_≡_, sym, _∙_, ap, subst}
+use Prim.Native.Nat.{_^_}
+use lib.Dec.{leb, ltb}
+use borrow.Author.Needs.{needs}
+use Rattle.ranks.proofs.Shapes.{counted}
+use Rattle.ranks.proofs.Goals.{index-told, position-told}
+use Rattle.ranks.proofs.reaches.Statement.{statement}
+use Rattle.ranks.proofs.reaches.Tie as tie
+
+enum-known-goal : tie.Need-enum-known-goal
+enum-known-goal c = search needs
+
+of-prenecklace-requires : tie.Need-of-prenecklace-requires
+of-prenecklace-requires c κs = search needs
+
+enum-known-goal-2 : tie.Need-enum-known-goal-2
+enum-known-goal-2 c = search needs
+
+whole-requires : tie.Need-whole-requires
+whole-requires c κs =
+    let (on, pre, _) = c .before .before .before .before .pre in
+    let k = c .before .before .before .before .args .s .k in
+    (counted on, pre, on .shaped .size ∙ ap (λ m. k ^ m) (sym (on .long)))
+
+returns : tie.Need-returns
+returns c =
+    let (on, _, inside) = c .before .before .before .before .before .pre in
+    index-told (c .before .before .goal .given .1) on inside (c .of-prenecklace .ensures)
+
+returns-2 : tie.Need-returns-2
+returns-2 c =
+    let (on, _, inside) = c .before .before .before .before .before .pre in
+    position-told (c .before .before .goal2 .given .1) on inside (c .whole .ensures)
+
+pub reaches-spec : {M : Type 1} → statement M
+reaches-spec = tie.close (tie.spec enum-known-goal of-prenecklace-requires enum-known-goal-2 whole-requires returns returns-2)
