@@ -40,6 +40,7 @@ pub mod Sizes
 pub mod Floors
 pub mod Search
 pub mod Positions
+pub mod Locating
 pub mod Digits
 pub mod Marked
 pub mod Theorems

@@ -110,6 +110,9 @@ window-marks k n p h s =
     subst (λ x. marksOk k (lettersOn x (strip k n) p n) ≡ true) long
     (letters-marks k (strip k n) p n (omega (arith, long, one-le-pow n k (omega arith))) (marks-joined k (stripWords k n) (λ w i. ring-words (divisorOf n) k n w .0 i .1)))
 
+pub place-is : (k n : ℕ) (w : List ℕ) → 2 ≤ k → 1 ≤ n → placeOn (divisorOf n) k n w ≡ placeOf k n w
+place-is k n w h s = ap (λ x. findOn x 0 x (strip k n) n w) (strip-long k n h s)
+
 pub one-place : One-place
 one-place = record { range = admitted-range; long = strip-long; found = found-at; only = only-at }
   where
@@ -118,9 +121,6 @@ one-place = record { range = admitted-range; long = strip-long; found = found-at
 
     of-ring : (k n : ℕ) → 2 ≤ k → 1 ≤ n → Ring (divisorOf n) k n
     of-ring k n h s = rings (divisorOf n) k n h s (divisors-allowed n s)
-
-    place-is : (k n : ℕ) (w : List ℕ) → 2 ≤ k → 1 ≤ n → placeOn (divisorOf n) k n w ≡ placeOf k n w
-    place-is k n w h s = ap (λ x. findOn x 0 x (strip k n) n w) (size k n h s)
 
     window-is : (k n p : ℕ) → 2 ≤ k → 1 ≤ n → windowOn (divisorOf n) k n p ≡ window k n p
     window-is k n p h s = ap (λ x. lettersOn x (strip k n) p n) (size k n h s)

@@ -28,7 +28,7 @@ use Rattle.theory.proofs.Tops.{Top, top, under, top-of, replicate-mid, 
 use Rattle.theory.proofs.Divisors.{divides-le}
 
 -- between two words that begin with p every word begins with p
-squeeze : (p s t v : List ℕ) → length p ≤ length v → Le (p ++ s) v → Le v (p ++ t) → Prefix p v
+pub squeeze : (p s t v : List ℕ) → length p ≤ length v → Le (p ++ s) v → Le v (p ++ t) → Prefix p v
 squeeze p s t v l a b = elim (cmp3 p v l) [
   | cut-below c ↦ absurd (le-not-lt b (cut-lt (subst (λ r. Cut (p ++ t) r) (append-nil v) (cut-append t [] c))))
   | cut-above c ↦ absurd (le-not-lt a (cut-lt (subst (λ r. Cut r (p ++ s)) (append-nil v) (cut-append [] s c))))
@@ -73,7 +73,7 @@ module _ (R : Setting) where
   pub power-pre : {u : List ℕ} → Member u → Prenecklace (powerTo n u)
   power-pre {u} m = subst Prenecklace (sym (power-is (m .fit))) (necklace-pre (power-necklace (suc (m .fit .times)) (m .fit .lyndon)))
 
-  powers-le : {u v : List ℕ} → Member u → Member v → Le u v → Le (powerTo n u) (powerTo n v)
+  pub powers-le : {u v : List ℕ} → Member u → Member v → Le u v → Le (powerTo n u) (powerTo n v)
   powers-le {u} {v} a b l = elim (le-cases l) [ inl p ↦ lt-le (powers-lt (a .fit) (b .fit) p) | inr p ↦ eq-le (ap (powerTo n) p) ]
 
   -- a word begins its power, and ends it
