@@ -1,0 +1,3 @@
+-- What the public calls promise.
+pub mod Refusals
+pub mod Says
