@@ -1,0 +1,2 @@
+-- What the moves along the strip ask and answer.
+pub mod Walks
