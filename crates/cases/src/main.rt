@@ -1,0 +1,141 @@
+// Runs the cases of the documents that the calls on words answer: a line for each call, with what it was asked, its number, its answer.
+fn space() {
+    io::write_all(1, b" ");
+}
+
+fn letter(x: u8) {
+    io::print_decimal(1, x as u64);
+}
+
+fn letters(word: &[u8]) {
+    let mut i = 0;
+    while i < word.len() {
+        letter(word[i]);
+        i += 1;
+    }
+}
+
+fn byte(x: u8) {
+    io::print_hex(1, x as u64, 2);
+}
+
+fn bytes(tray: &[u8]) {
+    let mut i = 0;
+    while i < tray.len() {
+        byte(tray[i]);
+        i += 1;
+    }
+}
+
+fn asked(call: &[u8], k: u64, n: u64) {
+    io::write_all(1, call);
+    space();
+    io::print_decimal(1, k);
+    space();
+    io::print_decimal(1, n);
+    space();
+}
+
+fn answered(answer: strip::Value) {
+    io::print_decimal(1, answer.number as u64);
+    space();
+    io::print_decimal(1, answer.value);
+    io::write_all(1, b"\n");
+}
+
+fn rank(k: u64, n: u64, word: &[u8]) {
+    let mut tray = [170u8; 10];
+    let number = strip::rank_of(k, n, word, &mut tray);
+    asked(b"rank", k, n);
+    letters(word);
+    space();
+    io::print_decimal(1, number as u64);
+    space();
+    bytes(&tray);
+    io::write_all(1, b"\n");
+}
+
+fn word(k: u64, n: u64, index: u64) {
+    let mut tray = [7u8; 8];
+    let number = strip::word_of(k, n, index, &mut tray);
+    asked(b"word", k, n);
+    io::print_decimal(1, index);
+    space();
+    io::print_decimal(1, number as u64);
+    space();
+    letters(&tray);
+    io::write_all(1, b"\n");
+}
+
+// The words of the indices up to `last`, from index 0, which has none.
+fn words(k: u64, n: u64, last: u64) {
+    let mut i = 0;
+    while i < last {
+        word(k, n, i);
+        i += 1;
+    }
+    word(k, n, last);
+}
+
+fn count(k: u64, n: u64) {
+    asked(b"count", k, n);
+    answered(strip::lyndon_count(k, n));
+}
+
+fn tests(k: u64, n: u64, word: &[u8]) {
+    asked(b"lyndon", k, n);
+    letters(word);
+    space();
+    answered(strip::is_lyndon(k, n, word));
+    asked(b"root", k, n);
+    letters(word);
+    space();
+    answered(strip::shortest_root(k, n, word));
+    let mut tray = [7u8; 8];
+    let number = strip::smallest_rotation(k, n, word, &mut tray);
+    asked(b"rotation", k, n);
+    letters(word);
+    space();
+    io::print_decimal(1, number as u64);
+    space();
+    letters(&tray);
+    io::write_all(1, b"\n");
+}
+
+// Ranks and words of document 01.
+fn small_strips() {
+    rank(3, 2, &[0, 0]);
+    rank(3, 2, &[2, 2]);
+    rank(3, 2, &[3, 0]);
+    rank(3, 2, &[0]);
+    rank(4, 1, &[2]);
+    rank(1, 6, &[0]);
+    words(2, 6, 10);
+    count(2, 6);
+    count(37, 1);
+    count(2, 61);
+    count(2, 60);
+    count(36, 11);
+    count(36, 12);
+}
+
+// The Lyndon words of length 5 (document 003), and of the lengths that divide 6 (document 004, Examples 1, 2 and 10).
+fn lists() {
+    words(2, 5, 7);
+    words(2, 1, 3);
+    words(2, 2, 2);
+    words(2, 3, 3);
+    rank(2, 6, &[0, 1, 1, 0, 1, 0]);
+    rank(2, 6, &[0, 1, 0, 1, 1, 1]);
+}
+
+fn main() {
+    small_strips();
+    lists();
+    tests(2, 6, &[0, 1, 1, 0, 1, 0]);
+    tests(2, 6, &[0, 1, 0, 1, 1, 1]);
+    tests(2, 6, &[1, 0, 0, 1, 0, 0]);
+    tests(2, 6, &[1, 1, 1, 1, 1, 1]);
+    tests(3, 2, &[2, 3]);
+    tests(3, 2, &[2, 1, 0]);
+}
