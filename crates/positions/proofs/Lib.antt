@@ -1,0 +1,2 @@
+-- Why the word found holds the position.
+pub mod Holding

@@ -1,0 +1,2 @@
+-- The word that holds a position.
+pub mod Holders
