@@ -1,2 +1,3 @@
--- Why the word found holds the position.
+-- Why the word found holds the position, and what is read there.
 pub mod Holding
+pub mod Reading

@@ -1,7 +1,8 @@
-// The word of the strip that holds a position.
+// The word of the strip that holds a position, and the letters from there on.
 ghost use mathlib.Core.Path.{_≡_};
 ghost use Prim.Native.Nat.{_<_};
 ghost use lib.ListN.{length};
+ghost use Rattle.theory.specs.Strips.{markAt, marksFrom};
 ghost use Rattle.shape.specs.Shapes.{Shaped};
 ghost use Rattle.positions.specs.Holders.{HoldsAt};
 use ranks::Goal;
@@ -26,4 +27,27 @@ pub fn holder(s: Strip, p: u64, v: &mut [u8]) -> Spot
         long,
         at: at as usize,
     }
+}
+
+// The letter at a position.
+pub fn letter(s: Strip, p: u64) -> u8
+    requires { ⌜ Shaped s × (p < s .size) ⌝ }
+    ensures { λ r. ⌜ r ≡ markAt (s .k) (s .n) p ⌝ }
+{
+    let mut room = [0u8; 60];
+    let v = &mut room[..s.n as usize];
+    let spot = holder(s, p, v);
+    let at = spot.at;
+    v[at]
+}
+
+// The letters from a position on, over the whole buffer.
+pub fn letters(s: Strip, p: u64, out: &mut [u8])
+    requires { ⌜ Shaped s × (p < s .size) ⌝ }
+    ensures { λ _. ⌜ now (out .exit) ≡ marksFrom (s .k) (s .n) p (length (now (out .entry))) ⌝ }
+{
+    let mut room = [0u8; 60];
+    let v = &mut room[..s.n as usize];
+    let spot = holder(s, p, v);
+    walks::write_from(s, v, spot.long, spot.at, out);
 }
