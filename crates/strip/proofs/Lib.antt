@@ -3,3 +3,4 @@ pub mod Strips
 pub mod Answers
 pub mod Rotations
 pub mod Indexes
+pub mod Spots

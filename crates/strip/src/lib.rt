@@ -6,12 +6,19 @@ use ranks::Goal;
 use shape::Made;
 use shape::Strip;
 
+mod places;
+
+pub use places::mark_at;
+pub use places::print_marks;
+
 // The table of refusals.
 pub const NO_SUCH_STRIP: u8 = 1;
 
 pub const WRONG_WINDOW: u8 = 2;
 
 pub const BAD_MARK: u8 = 3;
+
+pub const NO_SUCH_PLACE: u8 = 4;
 
 pub const NO_SUCH_WORD: u8 = 5;
 

@@ -1,0 +1,41 @@
+// Calls on places of a strip: the mark there, and the marks from there on.
+ghost use Rattle.strip.specs.Says.{MarkSays, PrintSays};
+use shape::Made;
+use shape::Strip;
+
+// The mark at a place, as 8 bytes.
+#[no_mangle]
+pub extern "C" fn mark_at(k: u64, n: u64, place: u64, tray: &mut [u8]) -> u8
+    ensures { λ r. ⌜ MarkSays k n place (now (tray .entry)) (now (tray .exit)) r ⌝ }
+{
+    let Made::Fine(strip) = Strip::new(k, n) else {
+        return crate::NO_SUCH_STRIP;
+    };
+    if strip.size <= place {
+        return crate::NO_SUCH_PLACE;
+    }
+    if tray.len() < 8 {
+        return crate::TRAY_TOO_SMALL;
+    }
+    buffers::put64(positions::letter(strip, place) as u64, tray);
+    0
+}
+
+// The marks from a place on, as many as are asked for, in the tray's first bytes.
+#[no_mangle]
+pub extern "C" fn print_marks(k: u64, n: u64, place: u64, marks: u64, tray: &mut [u8]) -> u8
+    ensures { λ r. ⌜ PrintSays k n place marks (now (tray .entry)) (now (tray .exit)) r ⌝ }
+{
+    let Made::Fine(strip) = Strip::new(k, n) else {
+        return crate::NO_SUCH_STRIP;
+    };
+    if strip.size <= place {
+        return crate::NO_SUCH_PLACE;
+    }
+    if (tray.len() as u64) < marks {
+        return crate::TRAY_TOO_SMALL;
+    }
+    let count = marks as usize;
+    positions::letters(strip, place, &mut tray[..count]);
+    0
+}
