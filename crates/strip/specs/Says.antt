@@ -8,7 +8,7 @@ use lib.ListN.{length}
 use Rattle.buffers.specs.Buffers.{putBe, over}
 use Rattle.theory.specs.Words.{pick, firstOf, when, isLyndon, smallest, root, howMany, rank, wordOf}
 use Rattle.strip.specs.declared.Value as DV
-use Rattle.theory.specs.Strips.{markAt, marksFrom}
+use Rattle.theory.specs.Strips.{markAt, marksFrom, placeOf}
 use Rattle.strip.specs.Refusals.{stripFault, theWordFault, indexFault, placeFault}
 
 -- an answer into a tray: its bytes, or the number with the tray as before
@@ -43,6 +43,9 @@ WordSays k n i t t′ r = let f = indexFault k n i in Into f (pick (eqb f 0) (wo
 
 abbrev pub MarkSays : ℕ → ℕ → ℕ → List ℕ → List ℕ → ℕ → Type 0
 MarkSays k n p t t′ r = Number (placeFault k n p) (markAt k n p) t t′ r
+
+abbrev pub PlaceSays : ℕ → ℕ → List ℕ → List ℕ → List ℕ → ℕ → Type 0
+PlaceSays k n w t t′ r = Number (theWordFault k n w) (placeOf k n w) t t′ r
 
 abbrev pub PrintSays : ℕ → ℕ → ℕ → ℕ → List ℕ → List ℕ → ℕ → Type 0
 PrintSays k n p c t t′ r = let f = firstOf (placeFault k n p) (when (ltb (length t) c) 6) in (r ≡ f) × (t′ ≡ pick (eqb f 0) (over (marksFrom k n p c) t) t)

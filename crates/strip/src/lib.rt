@@ -6,10 +6,11 @@ use ranks::Goal;
 use shape::Made;
 use shape::Strip;
 
-mod places;
+mod marks;
 
-pub use places::mark_at;
-pub use places::print_marks;
+pub use marks::mark_at;
+pub use marks::place_of;
+pub use marks::print_marks;
 
 // The table of refusals.
 pub const NO_SUCH_STRIP: u8 = 1;

@@ -10,8 +10,8 @@ use Rattle.buffers.specs.Buffers.{putBe, over}
 use Rattle.strip.proofs.Strips.{made-fine, strip-refused, strip-passed}
 use Rattle.strip.proofs.Spots.{made-size, place-large, place-fine}
 use Rattle.strip.proofs.Answers.{number-refused, number-small, number-answer}
-use Rattle.strip.proofs.places.mark_at.Statement.{statement}
-use Rattle.strip.proofs.places.mark_at.Tie as tie
+use Rattle.strip.proofs.marks.mark_at.Statement.{statement}
+use Rattle.strip.proofs.marks.mark_at.Tie as tie
 
 new-requires : tie.Need-new-requires
 new-requires c κs = search needs

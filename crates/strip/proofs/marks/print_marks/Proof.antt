@@ -10,8 +10,8 @@ use Rattle.theory.specs.Words.{when}
 use Rattle.theory.specs.Strips.{marksFrom}
 use Rattle.strip.proofs.Strips.{made-fine, strip-refused, strip-passed}
 use Rattle.strip.proofs.Spots.{made-size, place-large, place-fine, print-refused, print-small, print-answer, marks-made}
-use Rattle.strip.proofs.places.print_marks.Statement.{statement}
-use Rattle.strip.proofs.places.print_marks.Tie as tie
+use Rattle.strip.proofs.marks.print_marks.Statement.{statement}
+use Rattle.strip.proofs.marks.print_marks.Tie as tie
 
 new-requires : tie.Need-new-requires
 new-requires c κs = search needs

@@ -1,5 +1,5 @@
-// Calls on places of a strip: the mark there, and the marks from there on.
-ghost use Rattle.strip.specs.Says.{MarkSays, PrintSays};
+// Calls on the marks of a strip: the mark at a place, the place of a window of marks, the marks from a place on.
+ghost use Rattle.strip.specs.Says.{MarkSays, PlaceSays, PrintSays};
 use shape::Made;
 use shape::Strip;
 
@@ -18,6 +18,25 @@ pub extern "C" fn mark_at(k: u64, n: u64, place: u64, tray: &mut [u8]) -> u8
         return crate::TRAY_TOO_SMALL;
     }
     buffers::put64(positions::letter(strip, place) as u64, tray);
+    0
+}
+
+// The place of a window, as 8 bytes.
+#[no_mangle]
+pub extern "C" fn place_of(k: u64, n: u64, window: &[u8], tray: &mut [u8]) -> u8
+    ensures { λ r. ⌜ PlaceSays k n (now (window .entry)) (now (tray .entry)) (now (tray .exit)) r ⌝ }
+{
+    let Made::Fine(strip) = Strip::new(k, n) else {
+        return crate::NO_SUCH_STRIP;
+    };
+    let fault = crate::word_fault(k, n, window);
+    if fault != 0 {
+        return fault;
+    }
+    if tray.len() < 8 {
+        return crate::TRAY_TOO_SMALL;
+    }
+    buffers::put64(places::place_of(strip, window), tray);
     0
 }
 
