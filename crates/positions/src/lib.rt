@@ -1,8 +1,10 @@
 // The word of the strip that holds a position, and the letters from there on.
 ghost use mathlib.Core.Path.{_≡_};
 ghost use Prim.Native.Nat.{_<_};
-ghost use lib.ListN.{length};
-ghost use Rattle.theory.specs.Strips.{markAt, marksFrom};
+ghost use lib.ListN.{length, take};
+ghost use Rattle.theory.specs.Rings.{cursor};
+ghost use Rattle.walks.specs.Walks.{HeldOn};
+ghost use Rattle.theory.specs.Strips.{markAt, marksFrom, placeIn};
 ghost use Rattle.shape.specs.Shapes.{Shaped};
 ghost use Rattle.positions.specs.Holders.{HoldsAt};
 use ranks::Goal;
@@ -50,4 +52,14 @@ pub fn letters(s: Strip, p: u64, out: &mut [u8])
     let v = &mut room[..s.n as usize];
     let spot = holder(s, p, v);
     walks::write_from(s, v, spot.long, spot.at, out);
+}
+
+// The position of letter `at` of the word in the first `long` letters. The word is repeated to the buffer's end.
+pub fn position(s: Strip, v: &mut [u8], long: usize, at: usize) -> u64
+    requires { ⌜ HeldOn s (now v) long × (at < long) ⌝ }
+    ensures { λ r. ⌜ r ≡ placeIn (cursor (s .k) (s .n) (take long (now (v .entry))) at) ⌝ }
+{
+    words::steps::extend(v, long);
+    let end = paths::whole(s.k, v, s.size);
+    end - long as u64 + at as u64
 }

@@ -7,7 +7,7 @@ ghost use Rattle.theory.specs.Steps.{extension, raised};
 ghost use Rattle.words.specs.Moves.{Lettered, padded, Held, NextIs};
 
 // The first `long` letters, repeated up to the end of the buffer.
-fn extend(w: &mut [u8], long: usize)
+pub fn extend(w: &mut [u8], long: usize)
     requires { ⌜ (1 ≤ long) × (long ≤ length (now w)) ⌝ }
     ensures { λ _. ⌜ now (w .exit) ≡ extension (length (now (w .entry))) (take long (now (w .entry))) ⌝ }
 {

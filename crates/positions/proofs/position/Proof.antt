@@ -1,0 +1,37 @@
+-- `positions::position` is the place of a letter of a held word.
+use mathlib.Core.Path.{_≡_, refl}
+use Prim.Native.Nat.{_+_, _-_}
+use native.Mathlib.Omega.{arith}
+use lib.ListN.{length, take}
+use borrow.Author.Needs.{needs}
+use Rattle.theory.specs.Rings.{beforeW}
+use Rattle.theory.specs.Strips.{stripWords}
+use Rattle.shape.proofs.Limits.{limits}
+use Rattle.walks.proofs.Moving.{held-fits}
+use Rattle.positions.proofs.Ending.{ending-asks, ends-at}
+use Rattle.positions.proofs.position.Statement.{statement}
+use Rattle.positions.proofs.position.Tie as tie
+
+extend-requires : tie.Need-extend-requires
+extend-requires c κs = let f = c .before .before in (omega (arith, f .pre .1), held-fits (f .pre .0))
+
+whole-requires : tie.Need-whole-requires
+whole-requires c κs = let f = c .before .before .before .before .before .before in ending-asks (f .pre .0) (c .before .before .before .extend .ensures)
+
+sub-result : tie.Need-sub-result
+sub-result c = let f = c .before .before .before .before .before .before .before in omega (arith, ends-at (f .pre .0) (c .before .before .before .before .extend .ensures) (c .whole .ensures))
+
+add-result : tie.Need-add-result
+add-result c = search needs
+
+same-length : tie.Need-same-length
+same-length c = search needs
+
+returns : tie.Need-returns
+returns c =
+    let f = c .before .before .before .before .before .before .before in
+    let a = f .args in
+    omega (arith, ends-at (f .pre .0) (c .before .before .before .before .extend .ensures) (c .whole .ensures))
+
+pub position-spec : {M : Type 1} → statement M
+position-spec = tie.close (tie.spec extend-requires whole-requires sub-result add-result same-length returns)
