@@ -1,0 +1,2 @@
+-- The promise, kept.
+pub mod Kept

@@ -1,0 +1,29 @@
+-- The three demands as one record: the theorems about the definitions, and what follows for the bytes that the calls leave in trays.
+-- A call's contract says what it gives for every argument (crate strip, Says): here it stands as a premise.
+use mathlib.Core.Path.{_≡_}
+use mathlib.Core.Bool.{true}
+use mathlib.Core.List.{List}
+use Prim.Native.Nat.{ℕ, _^_, _≤_, _<_}
+use lib.ListN.{length, take, drop}
+use Rattle.theory.specs.Words.{marksOk, isLyndon, howMany}
+use Rattle.theory.specs.Strips.{admitted, window}
+use Rattle.theory.specs.Plans.{be}
+use Rattle.theory.specs.Theorems.{Theorems}
+use Rattle.buffers.specs.Buffers.{putBe, over}
+use Rattle.strip.specs.Says.{RankSays, WordSays, PlaceSays, PrintSays}
+
+pub record Demands : Type 0 where
+  pub theorems : Theorems
+  -- a number is read back from its 8 bytes
+  pub number-back : (v : ℕ) → v < 2 ^ 64 → be 0 8 (putBe 8 v) ≡ v
+  -- rank_of, then word_of with what it wrote, gives the Lyndon word back; and the other way round
+  pub word-back : (k n : ℕ) (w t t′ u u′ : List ℕ) (r q : ℕ) → admitted k n ≡ true → length w ≡ n → marksOk k w ≡ true → isLyndon w ≡ true
+      → 8 ≤ length t → n ≤ length u → RankSays k n w t t′ r → WordSays k n (be 0 8 t′) u u′ q → (r ≡ 0) × (q ≡ 0) × (u′ ≡ over w u)
+  pub rank-back : (k n i : ℕ) (t t′ u u′ : List ℕ) (r q : ℕ) → admitted k n ≡ true → 1 ≤ i → i ≤ howMany k n
+      → n ≤ length t → 8 ≤ length u → WordSays k n i t t′ r → RankSays k n (take n t′) u u′ q → (r ≡ 0) × (q ≡ 0) × (be 0 8 u′ ≡ i)
+  -- place_of on the window at a place writes that place, and no byte after it
+  pub place-back : (k n p : ℕ) (t t′ : List ℕ) (r : ℕ) → admitted k n ≡ true → p < k ^ n → 8 ≤ length t
+      → PlaceSays k n (window k n p) t t′ r → (r ≡ 0) × (be 0 8 t′ ≡ p) × (drop 8 t′ ≡ drop 8 t)
+  -- place_of, then print_marks of n marks there, gives the window back
+  pub window-back : (k n : ℕ) (w t t′ u u′ : List ℕ) (r q : ℕ) → admitted k n ≡ true → length w ≡ n → marksOk k w ≡ true
+      → 8 ≤ length t → n ≤ length u → PlaceSays k n w t t′ r → PrintSays k n (be 0 8 t′) n u u′ q → (r ≡ 0) × (q ≡ 0) × (u′ ≡ over w u)

@@ -1,0 +1,2 @@
+-- The promise.
+pub mod Demands
