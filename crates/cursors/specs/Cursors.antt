@@ -1,0 +1,74 @@
+-- What the cursor calls promise, for any bytes in a cursor's fields.
+use mathlib.Core.Path.{_≡_}
+use mathlib.Core.Bool.{Bool, true, false, _&&_, not}
+use mathlib.Core.List.{List, [], _∷_}
+use Prim.Native.Nat.{ℕ, _≤_, _<_}
+use lib.Dec.{eqb, leb}
+use lib.ListN.{take, drop}
+use Rattle.theory.specs.Words.{pick, pickT, firstOf, when}
+use Rattle.theory.specs.Rings.{Cursor, Stepped, cursor}
+use Rattle.theory.specs.Strips.{cursorOk, cursorAt, placeIn, stepOf}
+use Rattle.positions.specs.declared.Spot as DP
+use Rattle.shape.specs.declared.Strip as DH
+use Rattle.shape.specs.Shapes.{Shaped}
+use Rattle.strip.specs.Refusals.{stripFault, placeFault}
+use Rattle.strip.specs.Says.{ValueIs}
+use Rattle.strip.specs.declared.Value as DV
+use Rattle.cursors.specs.declared.Cursor as DC
+use Rattle.cursors.specs.declared.Started as DS
+use Rattle.cursors.specs.declared.Stepped as DT
+
+-- the held word in 60 bytes with zeros after it
+abbrev pub allZero : List ℕ → Bool
+allZero [] = true
+allZero (x ∷ xs) = eqb x 0 && allZero xs
+
+abbrev pub cursorIn : DC.Cursor → Cursor
+cursorIn c = cursor (c .k) (c .n) (take (c .long) (c .word)) (c .place)
+
+abbrev pub tidy : DC.Cursor → Bool
+tidy c = leb (c .long) 60 && allZero (drop (c .long) (c .word))
+
+abbrev pub Is : Cursor → DC.Cursor → Type 0
+Is x c = (cursorIn c ≡ x) × (tidy c ≡ true)
+
+abbrev pub empty : DC.Cursor → Bool
+empty c = eqb (c .k) 0 && (eqb (c .n) 0 && (eqb (c .long) 0 && (eqb (c .place) 0 && allZero (c .word))))
+
+-- a buffer whose first letters are the word that holds a place of the strip, the others as before
+pub record PutAt (s : DH.Strip) (p : ℕ) (before after : List ℕ) (r : DP.Spot) : Type 0 where
+  pub stands : cursor (s .k) (s .n) (take (r .long) after) (r .at) ≡ cursorAt (s .k) (s .n) p
+  pub rest : drop (r .long) after ≡ drop (r .long) before
+  pub fits : r .long ≤ s .n
+  pub inside : r .at < r .long
+
+-- a start: the cursor at the place, or one that is zero in every field
+abbrev pub StartSays : ℕ → ℕ → ℕ → DS.Started → Type 0
+StartSays k n p r = let f = placeFault k n p in (r .number ≡ f) × pickT (eqb f 0) (Is (cursorAt k n p) (r .cursor)) (empty (r .cursor) ≡ true)
+
+-- 1, then 10: the cursor holds no word of its strip with a place in it and zeros after it
+abbrev pub cursorFault : DC.Cursor → ℕ
+cursorFault c = firstOf (stripFault (c .k) (c .n)) (when (not (tidy c && cursorOk (cursorIn c))) 10)
+
+abbrev pub WhereSays : DC.Cursor → DV.Value → Type 0
+WhereSays c r = ValueIs (cursorFault c) (placeIn (cursorIn c)) r
+
+-- a cursor without fault, and the strip that is made of its k and n
+pub record GoodOn (s : DH.Strip) (c : DC.Cursor) : Type 0 where
+  pub shaped : Shaped s
+  pub letters : s .k ≡ c .k
+  pub marks : s .n ≡ c .n
+  pub good : (tidy c && cursorOk (cursorIn c)) ≡ true
+
+-- a step's answer: no number, the letter, the words passed, the moved cursor
+abbrev pub Goes : Stepped → DT.Stepped → Type 0
+Goes x r = (r .number ≡ 0) × (r .mark ≡ x .mark) × (r .passed ≡ x .passed) × Is (x .cursor-is) (r .cursor)
+
+abbrev pub StepSays : DC.Cursor → DT.Stepped → Type 0
+StepSays c r =
+    let f = cursorFault c in
+    let x = stepOf (cursorIn c) in
+    (r .number ≡ f)
+    × (r .mark ≡ pick (eqb f 0) (x .mark) 0)
+    × (r .passed ≡ pick (eqb f 0) (x .passed) 0)
+    × pickT (eqb f 0) (Is (x .cursor-is) (r .cursor)) (r .cursor ≡ c)

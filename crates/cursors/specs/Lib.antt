@@ -1,0 +1,2 @@
+-- What the cursor calls promise.
+pub mod Cursors

@@ -1,0 +1,20 @@
+// The table of refusals: the numbers that a call gives back instead of an answer. If several apply, the order is 7, 1, 8, 10, 2, 3, 4, 5, 9, 6.
+pub const NO_SUCH_STRIP: u8 = 1;
+
+pub const WRONG_WINDOW: u8 = 2;
+
+pub const BAD_MARK: u8 = 3;
+
+pub const OFF_THE_STRIP: u8 = 4;
+
+pub const NO_SUCH_WORD: u8 = 5;
+
+pub const TRAY_TOO_SMALL: u8 = 6;
+
+pub const TORN_PLAN: u8 = 7;
+
+pub const CROOKED_PLAN: u8 = 8;
+
+pub const NOT_LAID: u8 = 9;
+
+pub const LOST_CURSOR: u8 = 10;
