@@ -21,7 +21,7 @@ use Rattle.shape.specs.declared.Made.{Made}
 use Rattle.shape.specs.declared.Made.the-variants.{Fine, Refused}
 use Rattle.shape.specs.Shapes.{Shaped, madeOf}
 use Rattle.shape.proofs.Limits.{limits}
-use Rattle.strip.specs.Refusals.{placeFault}
+use Rattle.refusals.specs.Refusals.{placeFault}
 use Rattle.strip.proofs.Strips.{made-fine, strip-refused, strip-passed}
 use Rattle.cursors.specs.declared.Cursor as DC
 use Rattle.cursors.specs.declared.Started as DS

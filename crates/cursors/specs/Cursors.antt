@@ -11,7 +11,7 @@ use Rattle.theory.specs.Strips.{cursorOk, cursorAt, placeIn, stepOf}
 use Rattle.positions.specs.declared.Spot as DP
 use Rattle.shape.specs.declared.Strip as DH
 use Rattle.shape.specs.Shapes.{Shaped}
-use Rattle.strip.specs.Refusals.{stripFault, placeFault}
+use Rattle.refusals.specs.Refusals.{stripFault, placeFault}
 use Rattle.strip.specs.Says.{ValueIs}
 use Rattle.strip.specs.declared.Value as DV
 use Rattle.cursors.specs.declared.Cursor as DC

@@ -21,7 +21,7 @@ use Rattle.shape.specs.declared.Strip as DS
 use Rattle.shape.proofs.Limits.{Limits, limits}
 use Rattle.buffers.specs.Buffers.{putBe, over}
 use Rattle.buffers.proofs.Bytes.{put-read}
-use Rattle.strip.specs.Refusals.{stripFault, theWordFault, indexFault, placeFault}
+use Rattle.refusals.specs.Refusals.{stripFault, theWordFault, indexFault, placeFault}
 use Rattle.strip.specs.Says.{Into, Number, RankSays, WordSays, PlaceSays, PrintSays}
 use Rattle.strip.proofs.Indexes.{index-fine}
 use Rattle.strip.proofs.Spots.{place-fine}

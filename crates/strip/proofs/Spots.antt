@@ -14,7 +14,7 @@ use Rattle.shape.specs.declared.Strip as DS
 use Rattle.shape.specs.declared.Made.{Made}
 use Rattle.shape.specs.declared.Made.the-variants.{Fine}
 use Rattle.shape.specs.Shapes.{madeOf}
-use Rattle.strip.specs.Refusals.{placeFault}
+use Rattle.refusals.specs.Refusals.{placeFault}
 use Rattle.strip.specs.Says.{PrintSays}
 use Rattle.strip.proofs.Strips.{made-fine}
 

@@ -16,7 +16,7 @@ use Rattle.shape.specs.declared.Strip as DS
 use Rattle.shape.specs.declared.Made.{Made}
 use Rattle.shape.specs.declared.Made.the-variants.{Fine, Refused}
 use Rattle.shape.specs.Shapes.{madeOf, Shaped, WordOn}
-use Rattle.strip.specs.Refusals.{stripFault}
+use Rattle.refusals.specs.Refusals.{stripFault}
 
 -- the constructor's answer m: the shaped strip of k and n, and no fault; or the fault 1
 pub made-fine : (k n : ℕ) {m : Made} {s : DS.Strip} → m ≡ madeOf k n → m ≡ Fine s → Shaped s × (s .k ≡ k) × (s .n ≡ n) × (stripFault k n ≡ 0)

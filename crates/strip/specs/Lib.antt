@@ -1,3 +1,2 @@
 -- What the public calls promise.
-pub mod Refusals
 pub mod Says

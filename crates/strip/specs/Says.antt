@@ -9,7 +9,7 @@ use Rattle.buffers.specs.Buffers.{putBe, over}
 use Rattle.theory.specs.Words.{pick, firstOf, when, isLyndon, smallest, root, howMany, rank, wordOf}
 use Rattle.strip.specs.declared.Value as DV
 use Rattle.theory.specs.Strips.{markAt, marksFrom, placeOf}
-use Rattle.strip.specs.Refusals.{stripFault, theWordFault, indexFault, placeFault}
+use Rattle.refusals.specs.Refusals.{stripFault, theWordFault, indexFault, placeFault}
 
 -- an answer into a tray: its bytes, or the number with the tray as before
 abbrev pub Into : ℕ → List ℕ → List ℕ → List ℕ → ℕ → Type 0

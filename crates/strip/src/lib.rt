@@ -12,19 +12,6 @@ pub use marks::mark_at;
 pub use marks::place_of;
 pub use marks::print_marks;
 
-// The table of refusals.
-pub const NO_SUCH_STRIP: u8 = 1;
-
-pub const WRONG_WINDOW: u8 = 2;
-
-pub const BAD_MARK: u8 = 3;
-
-pub const NO_SUCH_PLACE: u8 = 4;
-
-pub const NO_SUCH_WORD: u8 = 5;
-
-pub const TRAY_TOO_SMALL: u8 = 6;
-
 pub struct Value {
     pub number: u8,
     pub value: u64,
@@ -47,12 +34,12 @@ fn word_fault(k: u64, n: u64, word: &[u8]) -> u8
     ensures { λ r. ⌜ r ≡ wordFault k n (now (word .entry)) ⌝ }
 {
     if word.len() as u64 != n {
-        return WRONG_WINDOW;
+        return refusals::WRONG_WINDOW;
     }
     if words::tests::letters_below(k, word) {
         return 0;
     }
-    BAD_MARK
+    refusals::BAD_MARK
 }
 
 // 1 for a Lyndon word, else 0.
@@ -60,7 +47,7 @@ pub fn is_lyndon(k: u64, n: u64, word: &[u8]) -> Value
     ensures { λ r. ⌜ LyndonSays k n (now (word .entry)) r ⌝ }
 {
     let Made::Fine(_) = Strip::new(k, n) else {
-        return refused(NO_SUCH_STRIP);
+        return refused(refusals::NO_SUCH_STRIP);
     };
     let fault = word_fault(k, n, word);
     if fault != 0 {
@@ -77,14 +64,14 @@ pub fn smallest_rotation(k: u64, n: u64, word: &[u8], tray: &mut [u8]) -> u8
     ensures { λ r. ⌜ RotationSays k n (now (word .entry)) (now (tray .entry)) (now (tray .exit)) r ⌝ }
 {
     let Made::Fine(_) = Strip::new(k, n) else {
-        return NO_SUCH_STRIP;
+        return refusals::NO_SUCH_STRIP;
     };
     let fault = word_fault(k, n, word);
     if fault != 0 {
         return fault;
     }
     if tray.len() < word.len() {
-        return TRAY_TOO_SMALL;
+        return refusals::TRAY_TOO_SMALL;
     }
     let turn = words::tests::least_turn(word);
     buffers::copy_turned(word, turn, tray);
@@ -96,7 +83,7 @@ pub fn shortest_root(k: u64, n: u64, word: &[u8]) -> Value
     ensures { λ r. ⌜ RootSays k n (now (word .entry)) r ⌝ }
 {
     let Made::Fine(_) = Strip::new(k, n) else {
-        return refused(NO_SUCH_STRIP);
+        return refused(refusals::NO_SUCH_STRIP);
     };
     let fault = word_fault(k, n, word);
     if fault != 0 {
@@ -110,7 +97,7 @@ pub fn lyndon_count(k: u64, n: u64) -> Value
     ensures { λ r. ⌜ ManySays k n r ⌝ }
 {
     let Made::Fine(strip) = Strip::new(k, n) else {
-        return refused(NO_SUCH_STRIP);
+        return refused(refusals::NO_SUCH_STRIP);
     };
     answered(ranks::count(strip))
 }
@@ -121,14 +108,14 @@ pub extern "C" fn rank_of(k: u64, n: u64, word: &[u8], tray: &mut [u8]) -> u8
     ensures { λ r. ⌜ RankSays k n (now (word .entry)) (now (tray .entry)) (now (tray .exit)) r ⌝ }
 {
     let Made::Fine(strip) = Strip::new(k, n) else {
-        return NO_SUCH_STRIP;
+        return refusals::NO_SUCH_STRIP;
     };
     let fault = word_fault(k, n, word);
     if fault != 0 {
         return fault;
     }
     if tray.len() < 8 {
-        return TRAY_TOO_SMALL;
+        return refusals::TRAY_TOO_SMALL;
     }
     buffers::put64(ranks::of_word(strip, word), tray);
     0
@@ -140,17 +127,17 @@ pub extern "C" fn word_of(k: u64, n: u64, index: u64, tray: &mut [u8]) -> u8
     ensures { λ r. ⌜ WordSays k n index (now (tray .entry)) (now (tray .exit)) r ⌝ }
 {
     let Made::Fine(strip) = Strip::new(k, n) else {
-        return NO_SUCH_STRIP;
+        return refusals::NO_SUCH_STRIP;
     };
     if index == 0 {
-        return NO_SUCH_WORD;
+        return refusals::NO_SUCH_WORD;
     }
     if ranks::count(strip) < index {
-        return NO_SUCH_WORD;
+        return refusals::NO_SUCH_WORD;
     }
     let long = n as usize;
     if tray.len() < long {
-        return TRAY_TOO_SMALL;
+        return refusals::TRAY_TOO_SMALL;
     }
     ranks::find(strip, Goal::Index(index), &mut tray[..long]);
     0

@@ -9,13 +9,13 @@ pub extern "C" fn mark_at(k: u64, n: u64, place: u64, tray: &mut [u8]) -> u8
     ensures { λ r. ⌜ MarkSays k n place (now (tray .entry)) (now (tray .exit)) r ⌝ }
 {
     let Made::Fine(strip) = Strip::new(k, n) else {
-        return crate::NO_SUCH_STRIP;
+        return refusals::NO_SUCH_STRIP;
     };
     if strip.size <= place {
-        return crate::NO_SUCH_PLACE;
+        return refusals::OFF_THE_STRIP;
     }
     if tray.len() < 8 {
-        return crate::TRAY_TOO_SMALL;
+        return refusals::TRAY_TOO_SMALL;
     }
     buffers::put64(positions::letter(strip, place) as u64, tray);
     0
@@ -27,14 +27,14 @@ pub extern "C" fn place_of(k: u64, n: u64, window: &[u8], tray: &mut [u8]) -> u8
     ensures { λ r. ⌜ PlaceSays k n (now (window .entry)) (now (tray .entry)) (now (tray .exit)) r ⌝ }
 {
     let Made::Fine(strip) = Strip::new(k, n) else {
-        return crate::NO_SUCH_STRIP;
+        return refusals::NO_SUCH_STRIP;
     };
     let fault = crate::word_fault(k, n, window);
     if fault != 0 {
         return fault;
     }
     if tray.len() < 8 {
-        return crate::TRAY_TOO_SMALL;
+        return refusals::TRAY_TOO_SMALL;
     }
     buffers::put64(places::place_of(strip, window), tray);
     0
@@ -46,13 +46,13 @@ pub extern "C" fn print_marks(k: u64, n: u64, place: u64, marks: u64, tray: &mut
     ensures { λ r. ⌜ PrintSays k n place marks (now (tray .entry)) (now (tray .exit)) r ⌝ }
 {
     let Made::Fine(strip) = Strip::new(k, n) else {
-        return crate::NO_SUCH_STRIP;
+        return refusals::NO_SUCH_STRIP;
     };
     if strip.size <= place {
-        return crate::NO_SUCH_PLACE;
+        return refusals::OFF_THE_STRIP;
     }
     if (tray.len() as u64) < marks {
-        return crate::TRAY_TOO_SMALL;
+        return refusals::TRAY_TOO_SMALL;
     }
     let count = marks as usize;
     positions::letters(strip, place, &mut tray[..count]);

@@ -34,7 +34,7 @@ position-requires : tie.Need-position-requires
 position-requires c κs =
     let f = c .before .before .before .before .before in
     let sixty : length (f .args .c .word) ≡ 60 = search needs in
-    (held-on (f .pre) sixty, place-inside (f .pre) sixty)
+    (held-on (f .pre) sixty, omega (arith, place-inside (f .pre) sixty))
 
 returns : tie.Need-returns
 returns c =

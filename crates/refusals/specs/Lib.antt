@@ -1,0 +1,2 @@
+-- The numbers that a call gives back, and their order.
+pub mod Refusals

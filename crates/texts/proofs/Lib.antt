@@ -1,0 +1,4 @@
+-- Laws of texts.
+pub mod Decimals
+pub mod Adding
+pub mod Lines

@@ -1,0 +1,29 @@
+-- Numbers and letters as text, in ASCII.
+use mathlib.Core.Path.{_≡_}
+use mathlib.Core.Bool.{Bool, true, false}
+use mathlib.Core.List.{List, [], _∷_, _++_}
+use Prim.Native.Nat.{ℕ, zero, suc, _+_, _/_, _%_}
+use lib.Dec.{ltb}
+use lib.ListN.{length, take}
+use Rattle.theory.specs.Words.{pick}
+
+-- a number's decimal digits, the highest first; one more turn than the number is always enough
+abbrev pub decimalFrom : ℕ → ℕ → List ℕ
+decimalFrom zero v = []
+decimalFrom (suc l) v = elim (ltb v 10) [ true ↦ (48 + v) ∷ [] | false ↦ decimalFrom l (v / 10) ++ ((48 + v % 10) ∷ []) ]
+
+abbrev pub decimal : ℕ → List ℕ
+decimal v = decimalFrom (suc v) v
+
+-- a letter's digit, 0 to 9 then a to z; a word's digits
+abbrev pub glyph : ℕ → ℕ
+glyph a = pick (ltb a 10) (48 + a) (87 + a)
+
+abbrev pub glyphs : List ℕ → List ℕ
+glyphs [] = []
+glyphs (a ∷ w) = glyph a ∷ glyphs w
+
+-- text added behind the first `at` bytes of a buffer: what stands there then, and where it ends
+pub record Adds (before : List ℕ) (at : ℕ) (text after : List ℕ) (end : ℕ) : Type 0 where
+  pub ends : end ≡ at + length text
+  pub stands : take end after ≡ take at before ++ text

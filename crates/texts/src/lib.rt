@@ -1,0 +1,59 @@
+// Text added to a buffer: numbers in decimal, letters as digits, bytes as they are. Each call adds behind the `at` bytes of text that are
+// there, and answers how many there are then.
+ghost use mathlib.Core.Path.{_≡_};
+ghost use Prim.Native.Nat.{_+_, _≤_, _<_};
+ghost use lib.ListN.{length};
+ghost use mathlib.Core.Bool.{true};
+ghost use Rattle.theory.specs.Words.{marksOk};
+ghost use Rattle.texts.specs.Texts.{decimal, glyph, glyphs, Adds};
+
+// A number in decimal: its higher digits, then the last.
+pub fn put_decimal(v: u64, out: &mut [u8], at: usize) -> usize
+    requires { ⌜ at + length (decimal v) ≤ length (now out) ⌝ }
+    ensures { λ r. ⌜ Adds (now (out .entry)) at (decimal v) (now (out .exit)) r ⌝ }
+{
+    if v < 10 {
+        out[at] = 48 + v as u8;
+        return at + 1;
+    }
+    let end = put_decimal(v / 10, out, at);
+    out[end] = 48 + (v % 10) as u8;
+    end + 1
+}
+
+// The digit of a letter: 0 to 9, then a to z.
+fn digit(letter: u8) -> u8
+    requires { ⌜ letter < 36 ⌝ }
+    ensures { λ r. ⌜ r ≡ glyph letter ⌝ }
+{
+    if letter < 10 {
+        return 48 + letter;
+    }
+    87 + letter
+}
+
+// A word, a digit for each letter.
+pub fn put_letters(word: &[u8], out: &mut [u8], at: usize) -> usize
+    requires { ⌜ (at + length (now word) ≤ length (now out)) × (marksOk 36 (now word) ≡ true) ⌝ }
+    ensures { λ r. ⌜ Adds (now (out .entry)) at (glyphs (now (word .entry))) (now (out .exit)) r ⌝ }
+{
+    let mut i = 0;
+    while i < word.len() {
+        out[at + i] = digit(word[i]);
+        i += 1;
+    }
+    at + i
+}
+
+// Bytes as they are.
+pub fn put_bytes(bytes: &[u8], out: &mut [u8], at: usize) -> usize
+    requires { ⌜ at + length (now bytes) ≤ length (now out) ⌝ }
+    ensures { λ r. ⌜ Adds (now (out .entry)) at (now (bytes .entry)) (now (out .exit)) r ⌝ }
+{
+    let mut i = 0;
+    while i < bytes.len() {
+        out[at + i] = bytes[i];
+        i += 1;
+    }
+    at + i
+}
