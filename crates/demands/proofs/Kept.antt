@@ -17,31 +17,20 @@ use Rattle.theory.proofs.Ranks.{undone}
 use Rattle.theory.proofs.Reading.{letters-length}
 use Rattle.theory.proofs.Rings.{one-place, window-marks}
 use Rattle.theory.proofs.Theorems.{theorems}
-use Rattle.shape.specs.declared.Strip as DS
-use Rattle.shape.proofs.Limits.{Limits, limits}
 use Rattle.buffers.specs.Buffers.{putBe, over}
 use Rattle.buffers.proofs.Bytes.{put-read}
-use Rattle.refusals.specs.Refusals.{stripFault, theWordFault, indexFault, placeFault}
+use Rattle.refusals.specs.Refusals.{theWordFault, indexFault}
 use Rattle.strip.specs.Says.{Into, Number, RankSays, WordSays, PlaceSays, PrintSays}
 use Rattle.strip.proofs.Indexes.{index-fine}
-use Rattle.strip.proofs.Spots.{place-fine}
 use Rattle.demands.specs.Demands.{Demands}
-
-admitted-limits : (k n : ℕ) → admitted k n ≡ true → Limits k n
-admitted-limits k n a = let s : DS.Strip = record { k = k; n = n; size = k ^ n } in limits {s = s} (record { admit = a; size = refl })
-
--- no fault
-strip-fine : (k n : ℕ) → admitted k n ≡ true → stripFault k n ≡ 0
-strip-fine k n a = rw a refl
+use Rattle.demands.proofs.Faults.{admitted-limits, strip-fine, place-faultless}
+use Rattle.demands.proofs.Walking.{walk, one-step}
 
 word-fine : (k n : ℕ) (w : List ℕ) → admitted k n ≡ true → length w ≡ n → marksOk k w ≡ true → theWordFault k n w ≡ 0
 word-fine k n w a e m = rw (a, eq-eqb (length w) n e, m) refl
 
 index-faultless : (k n i : ℕ) → admitted k n ≡ true → 1 ≤ i → i ≤ howMany k n → indexFault k n i ≡ 0
 index-faultless k n i a b c = rw (strip-fine k n a) (sym (index-fine k n i b c))
-
-place-faultless : (k n p : ℕ) → admitted k n ≡ true → p < k ^ n → placeFault k n p ≡ 0
-place-faultless k n p a h = rw (strip-fine k n a) (sym (place-fine k n p h))
 
 -- so the answer, over the start of the tray
 into-fine : (f : ℕ) (b t : List ℕ) {t′ : List ℕ} {r : ℕ} → f ≡ 0 → length b ≤ length t → Into f (pick (eqb f 0) b []) t t′ r → (r ≡ 0) × (t′ ≡ over b t)
@@ -103,4 +92,4 @@ window-back k n w t t′ u u′ r q a e m x y f g =
     (placed .0, printed .0, printed .1 ∙ ap (λ x. over x u) reads)
 
 pub demands : Demands
-demands = record { theorems = theorems; number-back = number-back; word-back = word-back; rank-back = rank-back; place-back = place-back; window-back = window-back }
+demands = record { theorems = theorems; number-back = number-back; word-back = word-back; rank-back = rank-back; place-back = place-back; window-back = window-back; walk = walk; one-step = one-step }

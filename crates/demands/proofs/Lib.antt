@@ -1,2 +1,4 @@
 -- The promise, kept.
+pub mod Faults
+pub mod Walking
 pub mod Kept

@@ -3,14 +3,21 @@
 use mathlib.Core.Path.{_≡_}
 use mathlib.Core.Bool.{true}
 use mathlib.Core.List.{List}
-use Prim.Native.Nat.{ℕ, _^_, _≤_, _<_}
+use Prim.Native.Nat.{ℕ, _+_, _^_, _≤_, _<_}
 use lib.ListN.{length, take, drop}
 use Rattle.theory.specs.Words.{marksOk, isLyndon, howMany}
-use Rattle.theory.specs.Strips.{admitted, window}
+use Rattle.theory.specs.Rings.{modulo}
+use Rattle.theory.specs.Strips.{admitted, markAt, marksFrom, window}
 use Rattle.theory.specs.Plans.{be}
 use Rattle.theory.specs.Theorems.{Theorems}
 use Rattle.buffers.specs.Buffers.{putBe, over}
+use Rattle.strip.specs.declared.Value as DV
 use Rattle.strip.specs.Says.{RankSays, WordSays, PlaceSays, PrintSays}
+use Rattle.cursors.specs.declared.Cursor as DC
+use Rattle.cursors.specs.declared.Started as DS
+use Rattle.cursors.specs.declared.Stepped as DT
+use Rattle.cursors.specs.Cursors.{StartSays, WhereSays, StepSays}
+use Rattle.demands.specs.Walked.{Walked}
 
 pub record Demands : Type 0 where
   pub theorems : Theorems
@@ -27,3 +34,10 @@ pub record Demands : Type 0 where
   -- place_of, then print_marks of n marks there, gives the window back
   pub window-back : (k n : ℕ) (w t t′ u u′ : List ℕ) (r q : ℕ) → admitted k n ≡ true → length w ≡ n → marksOk k w ≡ true
       → 8 ≤ length t → n ≤ length u → PlaceSays k n w t t′ r → PrintSays k n (be 0 8 t′) n u u′ q → (r ≡ 0) × (q ≡ 0) × (u′ ≡ over w u)
+  -- start_cursor at a place, any number of steps, cursor_place: the marks read are the strip's from that place on, and the place is as many further on
+  pub walk : (k n p : ℕ) (r : DS.Started) (ms : List ℕ) (d : DC.Cursor) (v : DV.Value) → admitted k n ≡ true → p < k ^ n
+      → StartSays k n p r → Walked (r .cursor) ms d → WhereSays d v
+      → (r .number ≡ 0) × (ms ≡ marksFrom k n p (length ms)) × (v .number ≡ 0) × (v .value ≡ modulo (p + length ms) (k ^ n))
+  -- a step from a place: the mark there, and no more words passed than a window has marks
+  pub one-step : (k n p : ℕ) (r : DS.Started) (q : DT.Stepped) → admitted k n ≡ true → p < k ^ n → StartSays k n p r → StepSays (r .cursor) q
+      → (q .number ≡ 0) × (q .mark ≡ markAt k n p) × (q .passed ≤ n)

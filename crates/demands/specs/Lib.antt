@@ -1,2 +1,3 @@
--- The promise.
+-- The promise as a whole.
+pub mod Walked
 pub mod Demands

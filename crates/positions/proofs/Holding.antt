@@ -31,7 +31,7 @@ use Rattle.positions.specs.declared.Spot as DP
 use Rattle.positions.specs.Holders.{HoldsAt}
 
 -- a cursor of a list keeps k and n
-at-kept : (k n : ℕ) (ws : List (List ℕ)) (p : ℕ) → (atFrom k n ws p .k ≡ k) × (atFrom k n ws p .n ≡ n)
+pub at-kept : (k n : ℕ) (ws : List (List ℕ)) (p : ℕ) → (atFrom k n ws p .k ≡ k) × (atFrom k n ws p .n ≡ n)
 at-kept k n [] p = (refl, refl)
 at-kept k n (w ∷ ws) p = elim (test (ltb p (length w))) [ inl t ↦ rw (t, atFrom) (refl, refl) | inr t ↦ rw (t, atFrom) (at-kept k n ws (p - length w)) ]
 

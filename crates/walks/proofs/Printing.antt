@@ -29,7 +29,7 @@ use Rattle.walks.proofs.Ways.{after, after-in, listed-some, strip-liste
 pub take-counted : (m : ℕ) (w : List ℕ) → take (length (take m w)) w ≡ take m w
 take-counted m w = ap (take (length (take m w))) (sym (take-append-drop m w)) ∙ take-append-seam (take m w) (drop m w)
 
-modulo-plus : (p g m : ℕ) → modulo (p + g) m ≡ modulo (modulo p m + g) m
+pub modulo-plus : (p g m : ℕ) → modulo (p + g) m ≡ modulo (modulo p m + g) m
 modulo-plus p g zero = refl
 modulo-plus p g (suc m) = sym (mod-add-mod p (suc m) g)
 

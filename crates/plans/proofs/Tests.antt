@@ -1,0 +1,106 @@
+-- The tests of a plan, in their order: torn, no such strip, crooked; and what an accepted plan is known to be.
+use mathlib.Core.Path.{_≡_, refl, sym, _∙_, ap}
+use mathlib.Core.Bool.{Bool, true, false, _||_, not, true≢false}
+use mathlib.Core.List.{List}
+use mathlib.Core.Logic.{inl, inr}
+use Prim.Native.Nat.{ℕ, _+_, _-_, _*_, _/_, _^_, _≤_, _<_}
+use native.Mathlib.Omega.{arith}
+use lib.Dec.{ltb, eqb}
+use lib.ListN.{length, take, drop, length-drop}
+use lib.Seq.{take-all}
+use borrow.Author.Tests.{ltb-false, eqb-true, not-false, lt-ltb, le-ltb}
+use Rattle.theory.specs.Strips.{admitted}
+use Rattle.theory.specs.Plans.{shades, marks, sectionCount, sectionsFrom, sections, torn, straightFrom, planFault}
+use Rattle.theory.proofs.Base.{test}
+use Rattle.theory.proofs.Laying.{plan-good}
+use Rattle.shape.specs.declared.Strip as DS
+use Rattle.shape.specs.declared.Made.{Made}
+use Rattle.shape.specs.declared.Made.the-variants.{Fine, Refused as None}
+use Rattle.shape.specs.Shapes.{madeOf}
+use Rattle.plans.specs.Opened.{openedOf, pickOpened}
+use Rattle.plans.specs.declared.Opened.the-variants.{Strip, Refused}
+use Rattle.plans.proofs.Pairs.{pairs}
+
+-- the count c and the length
+pub torn-short : (s : List ℕ) → length s < 4 → true ≡ torn s
+torn-short s h = sym (rw (lt-ltb (length s) 4 h))
+
+module _ (s : List ℕ) {c : ℕ} (head : 4 ≤ length s) (count : c ≡ sectionCount s) where
+  one : torn s ≡ (ltb 500 c || not (eqb (length s) (4 + 16 * c)))
+  one = rw (le-ltb (length s) 4 head, count)
+
+  pub torn-many : 500 < c → true ≡ torn s
+  torn-many h = sym (one ∙ rw (lt-ltb 500 c h))
+
+  pub torn-long : c ≤ 500 → not (eqb (length s) (4 + 16 * c)) ≡ torn s
+  torn-long h = sym (one ∙ rw (le-ltb 500 c h))
+
+-- a plan that is not torn
+pub record Whole (s : List ℕ) : Type 0 where
+  pub few : sectionCount s ≤ 500
+  pub long : length s ≡ 4 + 16 * sectionCount s
+
+or-false : (a b : Bool) → (a || b) ≡ false → (a ≡ false) × (b ≡ false)
+or-false true b h = absurd (true≢false h)
+or-false false b h = (refl, h)
+
+pub whole : (s : List ℕ) → torn s ≡ false → Whole s
+whole s h =
+    let (_, b) = or-false (ltb (length s) 4) _ h in
+    let (few, long) = or-false (ltb 500 (sectionCount s)) _ b in
+    record { few = ltb-false 500 (sectionCount s) few; long = eqb-true _ _ (not-false _ long) }
+
+pub accepted-whole : (s : List ℕ) → planFault s ≡ 0 → Whole s
+accepted-whole s h = whole s (plan-good s h .0)
+
+-- the pairs behind the head are the sections
+pairs-sections : (s : List ℕ) → Whole s → pairs (take (length s - 4) (drop 4 s)) ≡ sections s
+pairs-sections s w =
+    let all : take (length s - 4) (drop 4 s) ≡ drop 4 s = take-all (length s - 4) (drop 4 s) (omega (arith, length-drop 4 s)) in
+    let many : length (drop 4 s) / 16 ≡ sectionCount s = omega (arith, length-drop 4 s, w .long) in
+    ap pairs all ∙ ap (λ m. sectionsFrom m (drop 4 s)) many
+
+-- what opening answers: the plan's strip or its fault
+abbrev planned : List ℕ → DS.Strip
+planned s = record { k = shades s; n = marks s; size = shades s ^ marks s }
+
+module _ (s : List ℕ) where
+  answer : (f : ℕ) → planFault s ≡ f
+      → openedOf s ≡ pickOpened (eqb f 0) (Strip (planned s)) (Refused f)
+  answer f e = ap (λ g. pickOpened (eqb g 0) (Strip (planned s)) (Refused g)) e
+
+  pub opened-torn : torn s ≡ true → Refused 7 ≡ openedOf s
+  opened-torn t = sym (answer 7 (rw t))
+
+  -- m is the answer of the strip's constructor
+  module _ {m : Made} (good : torn s ≡ false) (made : m ≡ madeOf (shades s) (marks s)) where
+    never : {x : DS.Strip} → Fine x ≡ None → ⊥
+    never f = let z : _≡_ {A = ℕ} 0 1 = cc in omega arith
+
+    pub opened-none : m ≡ None → Refused 1 ≡ openedOf s
+    opened-none f = elim (test (admitted (shades s) (marks s))) [
+      | inl a ↦ absurd (never (sym (rw a at made) ∙ f))
+      | inr a ↦ sym (answer 1 (rw (good, a)))
+    ]
+
+    -- x is the strip that it made
+    module _ {x : DS.Strip} (fine : m ≡ Fine x) where
+      made-fine : (admitted (shades s) (marks s) ≡ true) × (planned s ≡ x)
+      made-fine = elim (test (admitted (shades s) (marks s))) [
+        | inl a ↦ (a, same (sym (rw a at made) ∙ fine))
+        | inr a ↦ absurd (never (sym fine ∙ rw a at made))
+      ]
+        where
+          same : {y : DS.Strip} → Fine y ≡ Fine x → y ≡ x
+          same e = cc
+
+      -- the test of the pairs has top at the strip's size
+      pub straight-sections : {b : Bool} → b ≡ straightFrom (marks s) (x .size) 0 (pairs (take (length s - 4) (drop 4 s)))
+          → straightFrom (marks s) (shades s ^ marks s) 0 (sections s) ≡ b
+      straight-sections e = ap (λ y. straightFrom (marks s) (y .size) 0 (sections s)) (made-fine .1) ∙ sym (e ∙ ap (straightFrom (marks s) (x .size) 0) (pairs-sections s (whole s good)))
+
+      pub opened-strip : straightFrom (marks s) (shades s ^ marks s) 0 (sections s) ≡ true → Strip x ≡ openedOf s
+      opened-strip h = sym (answer 0 (rw (good, made-fine .0, h)) ∙ ap Strip (made-fine .1))
+
+      pub opened-crooked : straightFrom (marks s) (shades s ^ marks s) 0 (sections s) ≡ false → Refused 8 ≡ openedOf s
+      opened-crooked h = sym (answer 8 (rw (good, made-fine .0, h)))

@@ -1,0 +1,2 @@
+-- What opening a plan answers.
+pub mod Opened
