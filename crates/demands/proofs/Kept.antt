@@ -24,6 +24,8 @@ use Rattle.strip.specs.Says.{Into, Number, RankSays, WordSays, PlaceSays, Print
 use Rattle.strip.proofs.Indexes.{index-fine}
 use Rattle.demands.specs.Demands.{Demands}
 use Rattle.demands.proofs.Faults.{admitted-limits, strip-fine, place-faultless}
+use Rattle.demands.proofs.Trays.{into-fine, number-fine, number-back, tray-back, small, kept}
+use Rattle.demands.proofs.Laying.{laid, laid-only}
 use Rattle.demands.proofs.Walking.{walk, one-step}
 
 word-fine : (k n : ℕ) (w : List ℕ) → admitted k n ≡ true → length w ≡ n → marksOk k w ≡ true → theWordFault k n w ≡ 0
@@ -31,23 +33,6 @@ word-fine k n w a e m = rw (a, eq-eqb (length w) n e, m) refl
 
 index-faultless : (k n i : ℕ) → admitted k n ≡ true → 1 ≤ i → i ≤ howMany k n → indexFault k n i ≡ 0
 index-faultless k n i a b c = rw (strip-fine k n a) (sym (index-fine k n i b c))
-
--- so the answer, over the start of the tray
-into-fine : (f : ℕ) (b t : List ℕ) {t′ : List ℕ} {r : ℕ} → f ≡ 0 → length b ≤ length t → Into f (pick (eqb f 0) b []) t t′ r → (r ≡ 0) × (t′ ≡ over b t)
-into-fine f b t {t′} {r} h l e = rw (le-ltb (length t) (length b) l) at (subst (λ x. Into x (pick (eqb x 0) b []) t t′ r) h e)
-
-number-fine : (f v : ℕ) (t : List ℕ) {t′ : List ℕ} {r : ℕ} → f ≡ 0 → 8 ≤ length t → Number f v t t′ r → (r ≡ 0) × (t′ ≡ over (putBe 8 v) t)
-number-fine f v t h l e = into-fine f (putBe 8 v) t h l e
-
-number-back : (v : ℕ) → v < 2 ^ 64 → be 0 8 (putBe 8 v) ≡ v
-number-back v h = put-read 8 v h
-
-tray-back : (v : ℕ) (t : List ℕ) {t′ : List ℕ} → v < 2 ^ 64 → t′ ≡ over (putBe 8 v) t → be 0 8 t′ ≡ v
-tray-back v t h e = ap (be 0 8) e ∙ number-back v h
-
--- places, ranks and counts stay below 2^64
-small : (k n : ℕ) {v : ℕ} → admitted k n ≡ true → v ≤ k ^ n → v < 2 ^ 64
-small k n a h = omega (arith, admitted-limits k n a .range)
 
 many-small : (k n : ℕ) → howMany k n ≤ k ^ n
 many-small k n = omega (arith, keep-length isLyndon (allWords k n), all-count k n)
@@ -92,4 +77,4 @@ window-back k n w t t′ u u′ r q a e m x y f g =
     (placed .0, printed .0, printed .1 ∙ ap (λ x. over x u) reads)
 
 pub demands : Demands
-demands = record { theorems = theorems; number-back = number-back; word-back = word-back; rank-back = rank-back; place-back = place-back; window-back = window-back; walk = walk; one-step = one-step }
+demands = record { theorems = theorems; number-back = number-back; word-back = word-back; rank-back = rank-back; place-back = place-back; window-back = window-back; walk = walk; one-step = one-step; laid = laid; laid-only = laid-only; kept = kept }

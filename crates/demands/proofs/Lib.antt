@@ -1,4 +1,6 @@
 -- The promise, kept.
 pub mod Faults
+pub mod Trays
 pub mod Walking
+pub mod Laying
 pub mod Kept

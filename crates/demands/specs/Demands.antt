@@ -3,16 +3,17 @@
 use mathlib.Core.Path.{_≡_}
 use mathlib.Core.Bool.{true}
 use mathlib.Core.List.{List}
+use mathlib.Core.Logic.{_≢_}
 use Prim.Native.Nat.{ℕ, _+_, _^_, _≤_, _<_}
 use lib.ListN.{length, take, drop}
 use Rattle.theory.specs.Words.{marksOk, isLyndon, howMany}
 use Rattle.theory.specs.Rings.{modulo}
 use Rattle.theory.specs.Strips.{admitted, markAt, marksFrom, window}
-use Rattle.theory.specs.Plans.{be}
+use Rattle.theory.specs.Plans.{be, shades, marks, sectionCount, sections, nthS, planFault}
 use Rattle.theory.specs.Theorems.{Theorems}
 use Rattle.buffers.specs.Buffers.{putBe, over}
 use Rattle.strip.specs.declared.Value as DV
-use Rattle.strip.specs.Says.{RankSays, WordSays, PlaceSays, PrintSays}
+use Rattle.strip.specs.Says.{Into, RankSays, WordSays, PlaceSays, PrintSays, LookupSays}
 use Rattle.cursors.specs.declared.Cursor as DC
 use Rattle.cursors.specs.declared.Started as DS
 use Rattle.cursors.specs.declared.Stepped as DT
@@ -41,3 +42,14 @@ pub record Demands : Type 0 where
   -- a step from a place: the mark there, and no more words passed than a window has marks
   pub one-step : (k n p : ℕ) (r : DS.Started) (q : DT.Stepped) → admitted k n ≡ true → p < k ^ n → StartSays k n p r → StepSays (r .cursor) q
       → (q .number ≡ 0) × (q .mark ≡ markAt k n p) × (q .passed ≤ n)
+  -- look_up on the window at a distance in a section of an accepted plan writes that section and that distance, and no byte after them
+  pub laid : (s : List ℕ) (i d : ℕ) (t t′ : List ℕ) (r : ℕ) → planFault s ≡ 0 → i < sectionCount s → d + marks s ≤ nthS (sections s) i .long
+      → 10 ≤ length t → LookupSays s (window (shades s) (marks s) (nthS (sections s) i .offset + d)) t t′ r
+      → (r ≡ 0) × (be 0 2 t′ ≡ i) × (be 2 8 t′ ≡ d) × (drop 10 t′ ≡ drop 10 t)
+  -- what look_up answers is true: the window is read at that distance in that section, wholly inside it
+  pub laid-only : (s w t t′ : List ℕ) (r : ℕ) → LookupSays s w t t′ r → r ≡ 0
+      → let i = be 0 2 t′ in
+      let d = be 2 8 t′ in
+      (i < sectionCount s) × (d + marks s ≤ nthS (sections s) i .long) × (window (shades s) (marks s) (nthS (sections s) i .offset + d) ≡ w)
+  -- every call with a tray leaves it as it was after a refusal, and never changes its length
+  pub kept : (f : ℕ) (b t t′ : List ℕ) (r : ℕ) → Into f b t t′ r → (r ≢ 0 → t′ ≡ t) × (length t′ ≡ length t)

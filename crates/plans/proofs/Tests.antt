@@ -1,8 +1,7 @@
 -- The tests of a plan, in their order: torn, no such strip, crooked; and what an accepted plan is known to be.
-use mathlib.Core.Path.{_≡_, refl, sym, _∙_, ap}
+use mathlib.Core.Path.{_≡_, refl, sym, _∙_, ap, ap₂}
 use mathlib.Core.Bool.{Bool, true, false, _||_, not, true≢false}
 use mathlib.Core.List.{List}
-use mathlib.Core.Logic.{inl, inr}
 use Prim.Native.Nat.{ℕ, _+_, _-_, _*_, _/_, _^_, _≤_, _<_}
 use native.Mathlib.Omega.{arith}
 use lib.Dec.{ltb, eqb}
@@ -11,12 +10,12 @@ use lib.Seq.{take-all}
 use borrow.Author.Tests.{ltb-false, eqb-true, not-false, lt-ltb, le-ltb}
 use Rattle.theory.specs.Strips.{admitted}
 use Rattle.theory.specs.Plans.{shades, marks, sectionCount, sectionsFrom, sections, torn, straightFrom, planFault}
-use Rattle.theory.proofs.Base.{test}
 use Rattle.theory.proofs.Laying.{plan-good}
 use Rattle.shape.specs.declared.Strip as DS
 use Rattle.shape.specs.declared.Made.{Made}
 use Rattle.shape.specs.declared.Made.the-variants.{Fine, Refused as None}
 use Rattle.shape.specs.Shapes.{madeOf}
+use Rattle.shape.proofs.Making.{made-strip, made-none}
 use Rattle.plans.specs.Opened.{openedOf, pickOpened}
 use Rattle.plans.specs.declared.Opened.the-variants.{Strip, Refused}
 use Rattle.plans.proofs.Pairs.{pairs}
@@ -74,33 +73,24 @@ module _ (s : List ℕ) where
 
   -- m is the answer of the strip's constructor
   module _ {m : Made} (good : torn s ≡ false) (made : m ≡ madeOf (shades s) (marks s)) where
-    never : {x : DS.Strip} → Fine x ≡ None → ⊥
-    never f = let z : _≡_ {A = ℕ} 0 1 = cc in omega arith
-
     pub opened-none : m ≡ None → Refused 1 ≡ openedOf s
-    opened-none f = elim (test (admitted (shades s) (marks s))) [
-      | inl a ↦ absurd (never (sym (rw a at made) ∙ f))
-      | inr a ↦ sym (answer 1 (rw (good, a)))
-    ]
+    opened-none f = sym (answer 1 (rw (good, made-none (shades s) (marks s) made f)))
 
     -- x is the strip that it made
     module _ {x : DS.Strip} (fine : m ≡ Fine x) where
-      made-fine : (admitted (shades s) (marks s) ≡ true) × (planned s ≡ x)
-      made-fine = elim (test (admitted (shades s) (marks s))) [
-        | inl a ↦ (a, same (sym (rw a at made) ∙ fine))
-        | inr a ↦ absurd (never (sym fine ∙ rw a at made))
-      ]
-        where
-          same : {y : DS.Strip} → Fine y ≡ Fine x → y ≡ x
-          same e = cc
+      admit : admitted (shades s) (marks s) ≡ true
+      admit = let (shaped, letters, n-is) = made-strip (shades s) (marks s) made fine in ap₂ admitted (sym letters) (sym n-is) ∙ shaped .admit
+
+      same : planned s ≡ x
+      same = let z : Fine (planned s) ≡ Fine x = sym (rw admit at made) ∙ fine in cc
 
       -- the test of the pairs has top at the strip's size
       pub straight-sections : {b : Bool} → b ≡ straightFrom (marks s) (x .size) 0 (pairs (take (length s - 4) (drop 4 s)))
           → straightFrom (marks s) (shades s ^ marks s) 0 (sections s) ≡ b
-      straight-sections e = ap (λ y. straightFrom (marks s) (y .size) 0 (sections s)) (made-fine .1) ∙ sym (e ∙ ap (straightFrom (marks s) (x .size) 0) (pairs-sections s (whole s good)))
+      straight-sections e = ap (λ y. straightFrom (marks s) (y .size) 0 (sections s)) same ∙ sym (e ∙ ap (straightFrom (marks s) (x .size) 0) (pairs-sections s (whole s good)))
 
       pub opened-strip : straightFrom (marks s) (shades s ^ marks s) 0 (sections s) ≡ true → Strip x ≡ openedOf s
-      opened-strip h = sym (answer 0 (rw (good, made-fine .0, h)) ∙ ap Strip (made-fine .1))
+      opened-strip h = sym (answer 0 (rw (good, admit, h)) ∙ ap Strip same)
 
       pub opened-crooked : straightFrom (marks s) (shades s ^ marks s) 0 (sections s) ≡ false → Refused 8 ≡ openedOf s
-      opened-crooked h = sym (answer 8 (rw (good, made-fine .0, h)))
+      opened-crooked h = sym (answer 8 (rw (good, admit, h)))

@@ -4,3 +4,4 @@ pub mod Answers
 pub mod Rotations
 pub mod Indexes
 pub mod Spots
+pub mod Laying

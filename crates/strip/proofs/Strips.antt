@@ -1,9 +1,9 @@
 -- What the answer of the strip's constructor and the test of a word say: the fault, the shaped strip, the word on it.
-use mathlib.Core.Path.{_≡_, refl, sym, _∙_, subst}
+use mathlib.Core.Path.{_≡_, sym, _∙_, ap₂, subst}
 use mathlib.Core.Bool.{true, not}
 use mathlib.Core.List.{List}
 use mathlib.Core.Logic.{inl, inr}
-use Prim.Native.Nat.{ℕ, _^_}
+use Prim.Native.Nat.{ℕ}
 use native.Mathlib.Omega.{arith}
 use lib.Dec.{eqb}
 use lib.ListN.{length}
@@ -16,25 +16,17 @@ use Rattle.shape.specs.declared.Strip as DS
 use Rattle.shape.specs.declared.Made.{Made}
 use Rattle.shape.specs.declared.Made.the-variants.{Fine, Refused}
 use Rattle.shape.specs.Shapes.{madeOf, Shaped, WordOn}
+use Rattle.shape.proofs.Making.{made-strip, made-none}
 use Rattle.refusals.specs.Refusals.{stripFault}
 
 -- the constructor's answer m: the shaped strip of k and n, and no fault; or the fault 1
 pub made-fine : (k n : ℕ) {m : Made} {s : DS.Strip} → m ≡ madeOf k n → m ≡ Fine s → Shaped s × (s .k ≡ k) × (s .n ≡ n) × (stripFault k n ≡ 0)
-made-fine k n {m} {s} e f = elim (test (admitted k n)) [ inl t ↦ fine t (sym (rw t at e) ∙ f) | inr t ↦ absurd (never (sym (rw t at e) ∙ f)) ]
-  where
-    never : Refused ≡ Fine s → ⊥
-    never f = let z : _≡_ {A = ℕ} 0 1 = cc in omega arith
-
-    fine : admitted k n ≡ true → Fine (record { k = k; n = n; size = k ^ n }) ≡ Fine s → Shaped s × (s .k ≡ k) × (s .n ≡ n) × (stripFault k n ≡ 0)
-    fine t f =
-        let is : record { k = k; n = n; size = k ^ n } ≡ s = cc in
-        subst (λ x. Shaped x × (x .k ≡ k) × (x .n ≡ n) × (stripFault k n ≡ 0)) is (record { admit = t; size = refl }, refl, refl, rw t)
+made-fine k n e f =
+    let (shaped, letters, marks) = made-strip k n e f in
+    (shaped, letters, marks, rw (ap₂ admitted (sym letters) (sym marks) ∙ shaped .admit))
 
 pub made-refused : (k n : ℕ) {m : Made} → m ≡ madeOf k n → m ≡ Refused → stripFault k n ≡ 1
-made-refused k n {m} e f = elim (test (admitted k n)) [ inl t ↦ absurd (never (sym (rw t at e) ∙ f)) | inr t ↦ rw t ]
-  where
-    never : Fine (record { k = k; n = n; size = k ^ n }) ≡ Refused → ⊥
-    never f = let z : _≡_ {A = ℕ} 0 1 = cc in omega arith
+made-refused k n e f = rw (made-none k n e f)
 
 -- the fault of the strip, then another, g: 1 where no strip is made, else g
 pub strip-refused : (k n g : ℕ) {m : Made} → m ≡ madeOf k n → m ≡ Refused → firstOf (stripFault k n) g ≡ 1

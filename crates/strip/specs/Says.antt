@@ -1,14 +1,15 @@
 -- What the public calls promise. A tray is an output buffer that the caller lends; t is what it holds at the call, t′ at the return.
 use mathlib.Core.Path.{_≡_}
 use mathlib.Core.Bool.{Bool, true, false}
-use mathlib.Core.List.{List, []}
-use Prim.Native.Nat.{ℕ}
+use mathlib.Core.List.{List, [], _++_}
+use Prim.Native.Nat.{ℕ, _-_}
 use lib.Dec.{eqb, ltb}
 use lib.ListN.{length}
 use Rattle.buffers.specs.Buffers.{putBe, over}
 use Rattle.theory.specs.Words.{pick, firstOf, when, isLyndon, smallest, root, howMany, rank, wordOf}
 use Rattle.strip.specs.declared.Value as DV
 use Rattle.theory.specs.Strips.{markAt, marksFrom, placeOf}
+use Rattle.theory.specs.Plans.{planFault, lookupFault, layingOf, distanceOf}
 use Rattle.refusals.specs.Refusals.{stripFault, theWordFault, indexFault, placeFault}
 
 -- an answer into a tray: its bytes, or the number with the tray as before
@@ -49,3 +50,13 @@ PlaceSays k n w t t′ r = Number (theWordFault k n w) (placeOf k n w) t t′ r
 
 abbrev pub PrintSays : ℕ → ℕ → ℕ → ℕ → List ℕ → List ℕ → ℕ → Type 0
 PrintSays k n p c t t′ r = let f = firstOf (placeFault k n p) (when (ltb (length t) c) 6) in (r ≡ f) × (t′ ≡ pick (eqb f 0) (over (marksFrom k n p c) t) t)
+
+-- a plan: its fault, or 0
+abbrev pub PlanSays : List ℕ → ℕ → Type 0
+PlanSays s r = r ≡ planFault s
+
+-- the section's number in 2 bytes and the distance in 8
+abbrev pub LookupSays : List ℕ → List ℕ → List ℕ → List ℕ → ℕ → Type 0
+LookupSays s w t t′ r =
+    let f = lookupFault s w in
+    Into f (pick (eqb f 0) (putBe 2 (layingOf s w - 1) ++ putBe 8 (distanceOf s w)) []) t t′ r

@@ -6,8 +6,11 @@ use ranks::Goal;
 use shape::Made;
 use shape::Strip;
 
+mod lookups;
 mod marks;
 
+pub use lookups::check_plan;
+pub use lookups::look_up;
 pub use marks::mark_at;
 pub use marks::place_of;
 pub use marks::print_marks;

@@ -3,17 +3,18 @@
 use mathlib.Core.Path.{_≡_, refl, sym, _∙_, ap, ap₂}
 use mathlib.Core.Bool.{Bool, true, false, _&&_, not}
 use mathlib.Core.List.{List, [], _∷_}
+use mathlib.Core.Logic.{inl, inr}
 use Prim.Native.Nat.{ℕ, zero, suc, _+_, _-_, _^_, _≤_, _<_}
 use native.Mathlib.Omega.{arith}
 use native.Mathlib.Nat.{add-zero, add-suc, suc-add, zero-add}
-use lib.Dec.{leb}
+use lib.Dec.{eqb, leb}
 use lib.ListN.{length, drop}
-use borrow.Author.Tests.{leb-true, le-leb, lt-leb, eq-eqb, ne-eqb, not-false}
+use borrow.Author.Tests.{leb-true, le-leb, lt-leb, eq-eqb, ne-eqb, eqb-false, not-false}
 use Rattle.theory.specs.Words.{firstOf, when, marksOk}
 use Rattle.theory.specs.Strips.{admitted, strip, window, placeOf}
-use Rattle.theory.specs.Plans.{Section, shades, marks, sectionCount, sectionsFrom, sections, torn, straightFrom, planFault, holdsAt, layingFrom, nthS, layingOf, distanceOf, lookupFault}
-use Rattle.theory.specs.Theorems.{Laid}
-use Rattle.theory.proofs.Base.{and-l, and-r, and-in, and-false}
+use Rattle.theory.specs.Plans.{Section, shades, marks, wordFault, sectionCount, sectionsFrom, sections, torn, straightFrom, planFault, holdsAt, layingFrom, nthS, layingOf, distanceOf, lookupFault}
+use Rattle.theory.specs.Theorems.{Laid, Laid-only}
+use Rattle.theory.proofs.Base.{test, and-l, and-r, and-in, and-false}
 use Rattle.theory.proofs.Reading.{letters-length}
 use Rattle.theory.proofs.Rings.{admitted-range, one-place, window-marks}
 
@@ -105,3 +106,47 @@ laid s i d good b h =
     let long = letters-length (shades s ^ marks s) (strip (shades s) (marks s)) p (marks s) in
     let ok = window-marks (shades s) (marks s) p two one in
     (no-fault s w i d p good long ok place laying refl, answer s w i d p good long ok place laying refl, distance s w i d p good long ok place laying refl)
+
+-- the section that is answered holds the window
+pub record Found (j p n : ℕ) (xs : List Section) : Type 0 where
+  pub index : ℕ
+  pub inside : index < length xs
+  pub is : layingFrom j p n xs ≡ suc (j + index)
+  pub starts : nthS xs index .offset ≤ p
+  pub ends : p + n ≤ nthS xs index .offset + nthS xs index .long
+
+pub laying-found : (j p n : ℕ) (xs : List Section) → ¬ (layingFrom j p n xs ≡ 0) → Found j p n xs
+laying-found j p n [] h = absurd (h refl)
+laying-found j p n (x ∷ xs) h = elim (test (holdsAt p n x)) [ inl t ↦ first t | inr t ↦ later t (laying-found (suc j) p n xs (λ e. h (rw (t, layingFrom) e))) ]
+  where
+    first : holdsAt p n x ≡ true → Found j p n (x ∷ xs)
+    first t =
+        record {
+          index = 0;
+          inside = omega arith;
+          is = rw (t, layingFrom) (ap suc (sym (add-zero j)));
+          starts = leb-true _ _ (and-l (leb (x .offset) p) _ t);
+          ends = leb-true _ _ (and-r (leb (x .offset) p) _ t);
+        }
+
+    later : holdsAt p n x ≡ false → Found (suc j) p n xs → Found j p n (x ∷ xs)
+    later t f =
+        let on : layingFrom j p n (x ∷ xs) ≡ layingFrom (suc j) p n xs = rw (t, layingFrom) refl in
+        record { index = suc (f .index); inside = omega (arith, f .inside); is = on ∙ f .is ∙ ap suc (suc-add j (f .index) ∙ sym (add-suc j (f .index))); starts = f .starts; ends = f .ends }
+
+-- no fault, so the plan and the word have none, and a section was found
+pub lookup-good : (s w : List ℕ) → lookupFault s w ≡ 0 → (planFault s ≡ 0) × (wordFault (shades s) (marks s) w ≡ 0) × (when (eqb (layingOf s w) 0) 9 ≡ 0)
+lookup-good s w h =
+    let (good, rest) = first-zero (planFault s) _ h in
+    let (word, looked) = first-zero (wordFault (shades s) (marks s) w) _ rest in
+    (good, word, looked)
+
+pub laid-only : Laid-only
+laid-only s w h =
+    let (_, _, looked) = lookup-good s w h in
+    let p = placeOf (shades s) (marks s) w in
+    let f = laying-found 0 p (marks s) (sections s) (eqb-false (layingOf s w) 0 (when-zero (eqb (layingOf s w) 0) 8 looked)) in
+    let e : layingOf s w - 1 ≡ f .index = omega (arith, f .is) in
+    let x : nthS (sections s) (layingOf s w - 1) ≡ nthS (sections s) (f .index) = ap (nthS (sections s)) e in
+    let offset = ap (λ y. y .offset) x in
+    (omega (arith, e, f .inside, sections-length (sectionCount s) (drop 4 s)), omega (arith, offset, f .starts), omega (arith, offset, ap (λ y. y .long) x, f .starts, f .ends))

@@ -7,7 +7,7 @@ use Rattle.theory.proofs.Laws.{lyndon-laws}
 use Rattle.theory.proofs.Steps.{steps}
 use Rattle.theory.proofs.Rings.{rings, one-place}
 use Rattle.theory.proofs.Cursors.{ring-cursors, cursors}
-use Rattle.theory.proofs.Laying.{laid}
+use Rattle.theory.proofs.Laying.{laid, laid-only}
 use Rattle.theory.proofs.BySum.{summed}
 use Rattle.theory.proofs.Floors.{floors}
 use Rattle.theory.proofs.Ends.{ends, strip-ends, short-ends}
@@ -27,6 +27,7 @@ theorems =
       one-place = one-place;
       cursors = cursors;
       laid = laid;
+      laid-only = laid-only;
       summed = summed;
       floors = floors;
       ends = ends;

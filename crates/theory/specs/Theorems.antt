@@ -148,6 +148,14 @@ Laid =
     → let w = window (shades s) (marks s) (nthS (sections s) i .offset + d) in
     (lookupFault s w ≡ 0) × (layingOf s w ≡ suc i) × (distanceOf s w ≡ d)
 
+-- And only there: what the lookup answers is a section that holds the window whole.
+abbrev pub Laid-only : Type 0
+Laid-only =
+    (s w : List ℕ) → lookupFault s w ≡ 0
+    → let i = layingOf s w - 1 in
+    let x = nthS (sections s) i in
+    (i < sectionCount s) × (x .offset + distanceOf s w ≡ placeOf (shades s) (marks s) w) × (distanceOf s w + marks s ≤ x .long)
+
 -- The sums of document 004, section 3: Möbius values over the divisors, the rank (Lemma 9) and the number of Lyndon words; the order
 -- of summation does not matter, and no running sum is large.
 pub record Summed : Type 0 where
@@ -223,6 +231,7 @@ pub record Theorems : Type 0 where
   pub one-place : One-place
   pub cursors : Cursors
   pub laid : Laid
+  pub laid-only : Laid-only
   pub summed : Summed
   pub floors : Floors
   pub ends : (ok : ℕ → Bool) (k n : ℕ) → 1 ≤ n → Allowed n ok → Ends ok k n
