@@ -1,19 +1,85 @@
-/* The calls of crate `strip`. A slice of bytes is a pointer and a length; a tray is a buffer that the caller lends. Each call returns 0, or
-   the number of a refusal (README), and then every byte of the tray is as it was. A number in a tray is 8 bytes, the highest first. An
-   input and the tray of one call must not overlap. */
+/* Position strips: ranks of Lyndon words, marks and places on a strip, places in a laying plan.
+
+   A strip of k shades and windows of n marks joins, in dictionary order, all Lyndon words whose length divides n. It has k^n marks, at
+   places 0 to k^n - 1, and goes round: after the last comes the first. Every window of n marks is read at exactly one place.
+
+   Words and windows are bytes, one a mark, from 0 to k - 1. A tray is a buffer that the caller lends for the answer. Each call returns 0
+   and has then put its answer over the first bytes of the tray, or it returns one of the numbers below and has written nothing. Bytes of
+   the tray behind the answer are never touched. A number in a tray has its highest byte first.
+
+   A call may come with any numbers and with any bytes in its slices; if several refusals apply, the first in the order
+   7, 1, 8, 2, 3, 4, 5, 9, 6 is given. What the caller must promise, since C cannot check it: each pointer is valid for its length (a null
+   pointer only with length 0), and the tray overlaps none of the other slices. The calls keep no state and may run in several threads at
+   once, each with its own tray.
+
+   Build the library with `rt staticlib strip` and link target/staticlib/libstrip.a. */
 #ifndef STRIP_H
 #define STRIP_H
 #include <stddef.h>
 #include <stdint.h>
 
-/* the rank of a word of n letters: how many Lyndon words of length n do not exceed it */
+#ifdef __cplusplus
+extern "C" {
+#endif
+
+/* Limits: k from 2, n from 1, and k^n at most 2^60. */
+#define STRIP_MOST_SHADES 36
+#define STRIP_MOST_MARKS 60
+#define STRIP_MOST_PLACES (UINT64_C(1) << 60)
+
+/* Numbers that a call returns. */
+enum {
+    STRIP_FINE = 0,
+    STRIP_NO_SUCH_STRIP = 1,  /* k, n or k^n is outside the limits */
+    STRIP_WRONG_WINDOW = 2,   /* the word does not have n marks */
+    STRIP_BAD_MARK = 3,       /* a mark is k or more */
+    STRIP_OFF_THE_STRIP = 4,  /* a place is k^n or more */
+    STRIP_NO_SUCH_WORD = 5,   /* an index is 0 or above the number of Lyndon words */
+    STRIP_TRAY_TOO_SMALL = 6, /* the tray is shorter than the answer */
+    STRIP_TORN_PLAN = 7,      /* under 4 bytes, more than 500 sections, or a wrong total */
+    STRIP_CROOKED_PLAN = 8,   /* a section is too short, overlaps the one ahead or ends behind the strip */
+    STRIP_NOT_LAID = 9        /* no section of the plan holds the window */
+};
+
+/* Bytes of an answer: a number; a section and a distance. */
+#define STRIP_NUMBER 8
+#define STRIP_LAYING 10
+
+/* The rank of a word of n marks: how many Lyndon words of length n do not exceed it. Tray: 8 bytes. Refusals: 1, 2, 3, 6. */
 uint8_t rank_of(uint64_t k, uint64_t n, const uint8_t *word, size_t word_len, uint8_t *tray, size_t tray_len);
-/* the Lyndon word of an index from 1, n bytes */
+
+/* The Lyndon word of length n with an index from 1 on, in dictionary order. Tray: n bytes. Refusals: 1, 5, 6. */
 uint8_t word_of(uint64_t k, uint64_t n, uint64_t index, uint8_t *tray, size_t tray_len);
-/* the mark at a place */
+
+/* The mark at a place. Tray: 8 bytes. Refusals: 1, 4, 6. */
 uint8_t mark_at(uint64_t k, uint64_t n, uint64_t place, uint8_t *tray, size_t tray_len);
-/* the place at which a window of n marks is read */
+
+/* The one place at which a window of n marks is read. Tray: 8 bytes. Refusals: 1, 2, 3, 6. */
 uint8_t place_of(uint64_t k, uint64_t n, const uint8_t *window, size_t window_len, uint8_t *tray, size_t tray_len);
-/* marks from a place on, round the end, one byte each */
+
+/* So many marks from a place on, round the end as often as need be, a byte each; `marks` may be 0. Tray: `marks` bytes.
+   Refusals: 1, 4, 6. */
 uint8_t print_marks(uint64_t k, uint64_t n, uint64_t place, uint64_t marks, uint8_t *tray, size_t tray_len);
+
+/* The section of a laying plan in which a window is read, and its distance from the section's start. Tray: 10 bytes, the section's number
+   from 0 in 2 and the distance in 8. Refusals: 7, 1, 8, 2, 3, 9, 6.
+
+   A plan is one byte k, one byte n, 2 bytes with the number m of sections (0 to 500), then m pairs of offset and length, 8 bytes each:
+   4 + 16 m bytes. Each length is at least n, each section ends at or before k^n, and none starts before the one ahead ends. A window
+   belongs to a section only if all its n marks do; one across the joint of two sections is not laid.
+
+   Example. On the strip of 2 shades and windows of 4, 0000100110101111, with the sections (0, 6) and (8, 8):
+
+       const uint8_t plan[36] = {2, 4, 0, 2, 0, 0, 0, 0, 0, 0, 0, 0, 0, 0, 0, 0, 0, 0, 0, 6,
+                                 0, 0, 0, 0, 0, 0, 0, 8, 0, 0, 0, 0, 0, 0, 0, 8};
+       const uint8_t window[4] = {1, 0, 1, 1};
+       uint8_t tray[STRIP_LAYING];
+       look_up(plan, sizeof plan, window, sizeof window, tray, sizeof tray);
+
+   returns 0 and leaves 0 1, 0 0 0 0 0 0 0 2 in the tray: the window is read at place 10, in section 1, 2 marks from its start. */
+uint8_t look_up(const uint8_t *plan, size_t plan_len, const uint8_t *window, size_t window_len, uint8_t *tray, size_t tray_len);
+
+#ifdef __cplusplus
+}
+#endif
 #endif
