@@ -48,7 +48,7 @@ slice-relend-prefix-letters : tie.Need-slice-relend-prefix-letters
 slice-relend-prefix-letters c = search needs
 
 slice-aggregate-letters : tie.Need-slice-aggregate-letters
-slice-aggregate-letters c = let a = c .before .before .before .before .before .before .before .before .before .args in sym (length-take-le (a .marks) (a .tray .now) (omega arith))
+slice-aggregate-letters c = let a = c .before .before .before .before .before .before .before .before .before .args in sym (length-take-le _ (a .tray .now) (omega arith))
 
 letters-requires : tie.Need-letters-requires
 letters-requires c κs =
