@@ -97,15 +97,15 @@ pub fn laying(plan: &[u8], place: u64) -> u64
     ensures { λ r. ⌜ r ≡ layingFrom 0 place (marks (now (plan .entry))) (sections (now (plan .entry))) ⌝ }
 {
     let last = place + plan[1] as u64;
-    let mut i = 0;
+    let mut looked = 0;
     let mut at = HEAD;
     while at < plan.len() {
         let offset = number(&plan[at..at + NUMBER]);
         let long = number(&plan[at + NUMBER..at + PAIR]);
-        i += 1;
+        looked += 1;
         if offset <= place {
             if last <= offset + long {
-                return i;
+                return looked;
             }
         }
         at += PAIR;

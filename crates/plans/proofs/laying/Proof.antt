@@ -68,12 +68,12 @@ part-number-end-2 c = omega arith
 number-requires-2 : tie.Need-number-requires-2 Inv-loop μ-loop
 number-requires-2 c κs = search needs
 
-add-i : tie.Need-add-i Inv-loop μ-loop
-add-i c = omega arith
+add-looked : tie.Need-add-looked Inv-loop μ-loop
+add-looked c = omega arith
 
 -- both numbers of section i were read
 pair : (c : lts.After-number2 (number-reads.Asked, number-reads.Learnt) reads.Pre reads.Post Inv-loop μ-loop)
-    → let at = c .before .before .before .before .before in Pair (at .before .before .before .args .plan .now) (at .loop .i) (at .loop .at) (c .before .before .number .result) (c .number2 .result)
+    → let at = c .before .before .before .before .before in Pair (at .before .before .before .args .plan .now) (at .loop .looked) (at .loop .at) (c .before .before .number .result) (c .number2 .result)
 pair c =
     let at = c .before .before .before .before .before in
     record { inside = omega arith; begins = at .loop .inv .2; first = c .before .before .number .ensures; second = c .number2 .ensures }
@@ -104,7 +104,7 @@ returns-2 : tie.Need-returns-2 Inv-loop μ-loop
 returns-2 c =
     let at = c .before in
     let a = at .before .before .before .args in
-    sym (at .loop .inv .3 ∙ none-left (a .place) (marks (a .plan .now)) (at .loop .i) (a .plan .now) (omega arith))
+    sym (at .loop .inv .3 ∙ none-left (a .place) (marks (a .plan .now)) (at .loop .looked) (a .plan .now) (omega arith))
 
 pub laying-spec : {M : Type 1} → statement M
 laying-spec =
@@ -127,7 +127,7 @@ laying-spec =
     part-number-start-2
     part-number-end-2
     number-requires-2
-    add-i
+    add-looked
     add-if2
     returns
     add-at
