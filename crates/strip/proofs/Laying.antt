@@ -43,43 +43,49 @@ module _ {s : List ℕ} {x : DS.Strip} (a : Accepted s x) (w : List ℕ) where
       let is : wordFault (shades s) (marks s) w ≡ _ = sym (e ∙ word-is) in
       rest ∙ first-some (wordFault (shades s) (marks s) w) _ (λ z. h (sym is ∙ z)) ∙ is
 
-  module _ {f : ℕ} (e : f ≡ wordFault (x .k) (x .n) w) (none : f ≡ 0) where
-    pub word-on-strip : WordOn x w
-    word-on-strip = let word = word-fine (x .k) (x .n) w (sym e ∙ none) in record { shaped = a .shaped; long = word .0; marks = word .1 }
-
-    looked : lookupFault s w ≡ when (eqb (layingOf s w) 0) 9
-    looked = rest ∙ ap (λ g. firstOf g (when (eqb (layingOf s w) 0) 9)) (sym word-is ∙ sym e ∙ none)
-
-    -- the place, and the laying found for it
-    module _ {p l : ℕ} (at : p ≡ placeOf (x .k) (x .n) w) (found : l ≡ layingFrom 0 p (marks s) (sections s)) where
-      place-is : p ≡ placeOf (shades s) (marks s) w
-      place-is = at ∙ ap₂ (λ k n. placeOf k n w) (a .letters) (a .marked)
-
-      laying-is : l ≡ layingOf s w
-      laying-is = found ∙ ap (λ q. layingFrom 0 q (marks s) (sections s)) place-is
-
-      pub nowhere : l ≡ 0 → lookupFault s w ≡ 9
-      nowhere z = looked ∙ ap (λ y. when (eqb y 0) 9) (sym laying-is ∙ z)
-
-      module _ (some : ¬ (l ≡ 0)) where
-        pub laid-fine : lookupFault s w ≡ 0
-        laid-fine = looked ∙ ap (λ t. when t 9) (ne-eqb (layingOf s w) 0 (λ z. some (laying-is ∙ z)))
-
-        pub section-inside : l - 1 < sectionCount s
-        section-inside = subst (λ y. y - 1 < sectionCount s) (sym laying-is) (laid-only s w laid-fine .0)
-
-        pub section-number : l - 1 ≡ layingOf s w - 1
-        section-number = ap (λ y. y - 1) laying-is
-
-        module _ {o : ℕ} (offset : o ≡ nthS (sections s) (l - 1) .offset) where
-          offset-is : o ≡ nthS (sections s) (layingOf s w - 1) .offset
-          offset-is = offset ∙ ap (λ i. nthS (sections s) i .offset) section-number
-
-          pub starts-before : o ≤ p
-          starts-before = omega (arith, offset-is, place-is, laid-only s w laid-fine .1)
-
-          pub distance-is : p - o ≡ distanceOf s w
-          distance-is = ap₂ _-_ place-is offset-is
+  pub word-on-strip : {f : ℕ} → f ≡ wordFault (x .k) (x .n) w → f ≡ 0 → WordOn x w
+  word-on-strip e none = let word = word-fine (x .k) (x .n) w (sym e ∙ none) in record { shaped = a .shaped; long = word .0; marks = word .1 }
 
   pub place-small : {p : ℕ} → WordOn x w → p ≡ placeOf (x .k) (x .n) w → p < 2 ^ 60
   place-small on e = let l = limits (on .shaped) in omega (arith, e, l .range, one-place .found (x .k) (x .n) w (l .two) (l .some) (on .long) (on .marks) .0)
+
+-- the word without fault f, its place p, and the laying l that was found for it
+pub record Looked (s w : List ℕ) (x : DS.Strip) (f p l : ℕ) : Type 0 where
+  pub plan : Accepted s x
+  pub word : f ≡ wordFault (x .k) (x .n) w
+  pub none : f ≡ 0
+  pub at : p ≡ placeOf (x .k) (x .n) w
+  pub found : l ≡ layingFrom 0 p (marks s) (sections s)
+
+module _ {s w : List ℕ} {x : DS.Strip} {f p l : ℕ} (looked : Looked s w x f p l) where
+  fault-left : lookupFault s w ≡ when (eqb (layingOf s w) 0) 9
+  fault-left = rest (looked .plan) w ∙ ap (λ g. firstOf g (when (eqb (layingOf s w) 0) 9)) (sym (word-is (looked .plan) w) ∙ sym (looked .word) ∙ looked .none)
+
+  place-is : p ≡ placeOf (shades s) (marks s) w
+  place-is = looked .at ∙ ap₂ (λ k n. placeOf k n w) (looked .plan .letters) (looked .plan .marked)
+
+  laying-is : l ≡ layingOf s w
+  laying-is = looked .found ∙ ap (λ q. layingFrom 0 q (marks s) (sections s)) place-is
+
+  pub nowhere : l ≡ 0 → lookupFault s w ≡ 9
+  nowhere z = fault-left ∙ ap (λ y. when (eqb y 0) 9) (sym laying-is ∙ z)
+
+  module _ (some : ¬ (l ≡ 0)) where
+    pub laid-fine : lookupFault s w ≡ 0
+    laid-fine = fault-left ∙ ap (λ t. when t 9) (ne-eqb (layingOf s w) 0 (λ z. some (laying-is ∙ z)))
+
+    pub section-inside : l - 1 < sectionCount s
+    section-inside = subst (λ y. y - 1 < sectionCount s) (sym laying-is) (laid-only s w laid-fine .0)
+
+    pub section-number : l - 1 ≡ layingOf s w - 1
+    section-number = ap (λ y. y - 1) laying-is
+
+    module _ {o : ℕ} (offset : o ≡ nthS (sections s) (l - 1) .offset) where
+      offset-is : o ≡ nthS (sections s) (layingOf s w - 1) .offset
+      offset-is = offset ∙ ap (λ i. nthS (sections s) i .offset) section-number
+
+      pub starts-before : o ≤ p
+      starts-before = omega (arith, offset-is, place-is, laid-only s w laid-fine .1)
+
+      pub distance-is : p - o ≡ distanceOf s w
+      distance-is = ap₂ _-_ place-is offset-is

@@ -1,16 +1,54 @@
 -- `look_up` puts the section that a window is read in, and its distance there, into the tray; a refusal leaves the tray as it was.
-use mathlib.Core.Path.{_≡_, refl, sym, _∙_, ap, ap₂}
-use mathlib.Core.List.{_++_}
-use Prim.Native.Nat.{_-_}
+use mathlib.Core.Path.{_≡_, refl, sym, _∙_, ap₂}
+use mathlib.Core.List.{List, _++_}
+use Prim.Native.Nat.{ℕ, _-_}
 use native.Mathlib.Omega.{arith}
 use borrow.Author.Needs.{needs}
 use Rattle.theory.specs.Plans.{layingOf, distanceOf}
 use Rattle.buffers.specs.Buffers.{putBe, over}
-use Rattle.plans.proofs.Opening.{accepted}
+use Rattle.places.proofs.place_of.Reads as place-of-reads
+use Rattle.plans.proofs.laying.Reads as laying-reads
+use Rattle.plans.proofs.open.Reads as open-reads
+use Rattle.plans.proofs.section_at.Reads as section-at-reads
+use Rattle.plans.proofs.Opening.{Accepted, accepted}
 use Rattle.strip.proofs.Answers.{into-refused, into-small, into-answer}
-use Rattle.strip.proofs.Laying.{refused-plan, plan-fault, word-faulty, word-on-strip, place-small, nowhere, laid-fine, section-inside, section-number, starts-before, distance-is}
+use Rattle.strip.proofs.Laying.{Looked, refused-plan, plan-fault, word-faulty, word-on-strip, place-small, nowhere, laid-fine, section-inside, section-number, starts-before, distance-is}
+use Rattle.strip.proofs.lookups.check_plan.Reads as check-plan-reads
+use Rattle.strip.proofs.lookups.put_answer.Reads as put-answer-reads
+use Rattle.strip.proofs.word_fault.Reads as word-fault-reads
 use Rattle.strip.proofs.lookups.look_up.Statement.{statement}
 use Rattle.strip.proofs.lookups.look_up.Tie as tie
+use Rattle.strip.proofs.lookups.look_up.Reads as reads
+use Rattle.strip.proofs.lookups.look_up.Lts as lts
+
+-- what is written for a plan and a window
+abbrev answer : List ℕ → List ℕ → List ℕ
+answer s w = putBe 2 (layingOf s w - 1) ++ putBe 8 (distanceOf s w)
+
+-- past the plan's test the plan is accepted; past the search the window's place is looked up in it
+abbrev Opened : Type 0
+Opened = lts.After-open (open-reads.Asked, open-reads.Learnt, check-plan-reads.Asked, check-plan-reads.Learnt, word-fault-reads.Asked, word-fault-reads.Learnt, place-of-reads.Asked, place-of-reads.Learnt, laying-reads.Asked, laying-reads.Learnt, section-at-reads.Asked, section-at-reads.Learnt, put-answer-reads.Asked, put-answer-reads.Learnt) reads.Pre reads.Post
+
+abbrev the-plan : Opened → List ℕ
+the-plan o = o .before .before .before .before .args .plan .now
+
+abbrev the-window : Opened → List ℕ
+the-window o = o .before .before .before .before .args .window .now
+
+abbrev the-tray : Opened → List ℕ
+the-tray o = o .before .before .before .before .args .tray .now
+
+abbrev Known : Type 0
+Known = lts.After-known-told (open-reads.Asked, open-reads.Learnt, check-plan-reads.Asked, check-plan-reads.Learnt, word-fault-reads.Asked, word-fault-reads.Learnt, place-of-reads.Asked, place-of-reads.Learnt, laying-reads.Asked, laying-reads.Learnt, section-at-reads.Asked, section-at-reads.Learnt, put-answer-reads.Asked, put-answer-reads.Learnt) reads.Pre reads.Post
+
+plan : (c : Known) → Accepted (the-plan (c .before .before .before)) (c .before .strip .given .0 .0)
+plan c = accepted (the-plan (c .before .before .before)) (c .before .before .before .open .ensures) (c .before .strip .given .1)
+
+abbrev Laid : Type 0
+Laid = lts.After-laying (open-reads.Asked, open-reads.Learnt, check-plan-reads.Asked, check-plan-reads.Learnt, word-fault-reads.Asked, word-fault-reads.Learnt, place-of-reads.Asked, place-of-reads.Learnt, laying-reads.Asked, laying-reads.Learnt, section-at-reads.Asked, section-at-reads.Learnt, put-answer-reads.Asked, put-answer-reads.Learnt) reads.Pre reads.Post
+
+looked : (c : Laid) → let k = c .before .before .before .before in Looked (the-plan (k .before .before .before)) (the-window (k .before .before .before)) (k .before .strip .given .0 .0) (c .before .before .before .word-fault .result) (c .before .place-of .result) (c .laying .result)
+looked c = record { plan = plan (c .before .before .before .before); word = c .before .before .before .word-fault .ensures; none = c .before .before .if1 .left; at = c .before .place-of .ensures; found = c .laying .ensures }
 
 open-requires : tie.Need-open-requires
 open-requires c κs = search needs
@@ -26,98 +64,48 @@ check-plan-requires c κs = search needs
 
 returns : tie.Need-returns
 returns c =
-    let opened = c .before .before .before in
-    let a = opened .before .before .before .before .args in
-    let s = a .plan .now in
-    let w = a .window .now in
-    let faulty = refused-plan s (opened .open .ensures) (c .before .enum-told .given .1) (c .check-plan .ensures) in
-    into-refused (putBe 2 (layingOf s w - 1) ++ putBe 8 (distanceOf s w)) (a .tray .now) (plan-fault s w (faulty .0) (faulty .1)) (faulty .1) refl
+    let o = c .before .before .before in
+    let s = the-plan o in
+    let w = the-window o in
+    let faulty = refused-plan s (c .before .before .before .open .ensures) (c .before .enum-told .given .1) (c .check-plan .ensures) in
+    into-refused (answer s w) (the-tray o) (plan-fault s w (faulty .0) (faulty .1)) (faulty .1) refl
 
 word-fault-requires : tie.Need-word-fault-requires
 word-fault-requires c κs = search needs
 
 returns-2 : tie.Need-returns-2
 returns-2 c =
-    let kt = c .before .before in
-    let opened = kt .before .before .before in
-    let a = opened .before .before .before .before .args in
-    let s = a .plan .now in
-    let w = a .window .now in
-    let plan = accepted s (opened .open .ensures) (kt .before .strip .given .1) in
-    into-refused (putBe 2 (layingOf s w - 1) ++ putBe 8 (distanceOf s w)) (a .tray .now) (word-faulty plan w (c .before .word-fault .ensures) (c .if1 .taken)) (c .if1 .taken) refl
+    let o = c .before .before .before .before .before in
+    let w = the-window o in
+    into-refused (answer (the-plan o) w) (the-tray o) (word-faulty (plan (c .before .before)) w (c .before .word-fault .ensures) (c .if1 .taken)) (c .if1 .taken) refl
 
 place-of-requires : tie.Need-place-of-requires
-place-of-requires c κs =
-    let kt = c .before .before in
-    let opened = kt .before .before .before in
-    let a = opened .before .before .before .before .args in
-    let s = a .plan .now in
-    let w = a .window .now in
-    let plan = accepted s (opened .open .ensures) (kt .before .strip .given .1) in
-    word-on-strip plan w (c .before .word-fault .ensures) (c .if1 .left)
+place-of-requires c κs = word-on-strip (plan (c .before .before)) (the-window (c .before .before .before .before .before)) (c .before .word-fault .ensures) (c .if1 .left)
 
 laying-requires : tie.Need-laying-requires
 laying-requires c κs =
-    let kt = c .before .before .before in
-    let opened = kt .before .before .before in
-    let a = opened .before .before .before .before .args in
-    let s = a .plan .now in
-    let w = a .window .now in
-    let plan = accepted s (opened .open .ensures) (kt .before .strip .given .1) in
-    let passed = c .before in
-    (plan .faultless, place-small plan w (word-on-strip plan w (passed .before .word-fault .ensures) (passed .if1 .left)) (c .place-of .ensures))
+    let known = plan (c .before .before .before) in
+    let w = the-window (c .before .before .before .before .before .before) in
+    (known .faultless, place-small known w (word-on-strip known w (c .before .before .word-fault .ensures) (c .before .if1 .left)) (c .place-of .ensures))
 
 returns-3 : tie.Need-returns-3
 returns-3 c =
-    let kt = c .before .before .before .before .before in
-    let opened = kt .before .before .before in
-    let a = opened .before .before .before .before .args in
-    let s = a .plan .now in
-    let w = a .window .now in
-    let plan = accepted s (opened .open .ensures) (kt .before .strip .given .1) in
-    let laid = c .before in
-    let passed = laid .before .before in
-    into-refused (putBe 2 (layingOf s w - 1) ++ putBe 8 (distanceOf s w)) (a .tray .now) (nowhere plan w (passed .before .word-fault .ensures) (passed .if1 .left) (laid .before .place-of .ensures) (laid .laying .ensures) (c .if2 .taken)) (λ z. omega arith) refl
+    let o = c .before .before .before .before .before .before .before .before in
+    into-refused (answer (the-plan o) (the-window o)) (the-tray o) (nowhere (looked (c .before)) (c .if2 .taken)) (λ z. omega arith) refl
 
 returns-4 : tie.Need-returns-4
 returns-4 c =
-    let kt = c .before .before .before .before .before .before in
-    let opened = kt .before .before .before in
-    let a = opened .before .before .before .before .args in
-    let s = a .plan .now in
-    let w = a .window .now in
-    let plan = accepted s (opened .open .ensures) (kt .before .strip .given .1) in
-    let laid = c .before .before in
-    let passed = laid .before .before in
-    into-small (putBe 2 (layingOf s w - 1) ++ putBe 8 (distanceOf s w)) (a .tray .now) (laid-fine plan w (passed .before .word-fault .ensures) (passed .if1 .left) (laid .before .place-of .ensures) (laid .laying .ensures) (c .before .if2 .left)) (omega arith) refl refl
+    let o = c .before .before .before .before .before .before .before .before .before in
+    into-small (answer (the-plan o) (the-window o)) (the-tray o) (laid-fine (looked (c .before .before)) (c .before .if2 .left)) (omega arith) refl refl
 
 sub-section : tie.Need-sub-section
 sub-section c = search needs
 
 section-at-requires : tie.Need-section-at-requires
-section-at-requires c κs =
-    let kt = c .before .before .before .before .before .before in
-    let opened = kt .before .before .before in
-    let a = opened .before .before .before .before .args in
-    let s = a .plan .now in
-    let w = a .window .now in
-    let plan = accepted s (opened .open .ensures) (kt .before .strip .given .1) in
-    let laid = c .before .before in
-    let passed = laid .before .before in
-    (plan .faultless, section-inside plan w (passed .before .word-fault .ensures) (passed .if1 .left) (laid .before .place-of .ensures) (laid .laying .ensures) (c .before .if2 .left))
+section-at-requires c κs = (plan (c .before .before .before .before .before .before) .faultless, section-inside (looked (c .before .before)) (c .before .if2 .left))
 
 sub-put-answer : tie.Need-sub-put-answer
-sub-put-answer c =
-    let kt = c .before .before .before .before .before .before .before .before in
-    let opened = kt .before .before .before in
-    let a = opened .before .before .before .before .args in
-    let s = a .plan .now in
-    let w = a .window .now in
-    let plan = accepted s (opened .open .ensures) (kt .before .strip .given .1) in
-    let found = c .before in
-    let laid = found .before .before .before in
-    let passed = laid .before .before in
-    starts-before plan w (passed .before .word-fault .ensures) (passed .if1 .left) (laid .before .place-of .ensures) (laid .laying .ensures) (found .before .before .if2 .left) (found .section-at .ensures .0)
+sub-put-answer c = starts-before (looked (c .before .before .before .before)) (c .before .before .before .if2 .left) (c .before .section-at .ensures .0)
 
 put-answer-requires : tie.Need-put-answer-requires
 put-answer-requires c κs = search needs
@@ -127,23 +115,13 @@ same-length c = search needs
 
 returns-5 : tie.Need-returns-5
 returns-5 c =
-    let kt = c .before .before .before .before .before .before .before .before .before .before .before .before in
-    let opened = kt .before .before .before in
-    let a = opened .before .before .before .before .args in
-    let s = a .plan .now in
-    let w = a .window .now in
-    let plan = accepted s (opened .open .ensures) (kt .before .strip .given .1) in
     let put = c .before .before in
-    let found = put .before .before .before in
-    let laid = found .before .before .before in
-    let passed = laid .before .before in
-    let some = found .before .before .if2 .left in
-    let word = passed .before .word-fault .ensures in
-    let place = laid .before .place-of .ensures in
-    let number = section-number plan w word (passed .if1 .left) place (laid .laying .ensures) some in
-    let distance = distance-is plan w word (passed .if1 .left) place (laid .laying .ensures) some (found .section-at .ensures .0) in
-    into-answer (putBe 2 (layingOf s w - 1) ++ putBe 8 (distanceOf s w)) (a .tray .now) (laid-fine plan w word (passed .if1 .left) place (laid .laying .ensures) some) (omega arith) refl
-    (put .put-answer .ensures ∙ ap₂ (λ x y. over (putBe 2 x ++ putBe 8 y) (a .tray .now)) number distance)
+    let section = put .before .before .before in
+    let laid = section .before .before .before in
+    let o = laid .before .before .before .before .before .before .before in
+    let some = section .before .before .if2 .left in
+    into-answer (answer (the-plan o) (the-window o)) (the-tray o) (laid-fine (looked laid) some) (omega arith) refl
+    (put .put-answer .ensures ∙ ap₂ (λ x y. over (putBe 2 x ++ putBe 8 y) (the-tray o)) (section-number (looked laid) some) (distance-is (looked laid) some (section .section-at .ensures .0)))
 
 pub look-up-spec : {M : Type 1} → statement M
 look-up-spec =
