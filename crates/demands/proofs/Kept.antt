@@ -22,6 +22,7 @@ use Rattle.buffers.proofs.Bytes.{put-read}
 use Rattle.refusals.specs.Refusals.{theWordFault, indexFault}
 use Rattle.strip.specs.Says.{Into, Number, RankSays, WordSays, PlaceSays, PrintSays}
 use Rattle.strip.proofs.Indexes.{index-fine}
+use Rattle.listing.proofs.Whole.{whole-listing}
 use Rattle.demands.specs.Demands.{Demands}
 use Rattle.demands.proofs.Faults.{admitted-limits, strip-fine, place-faultless}
 use Rattle.demands.proofs.Trays.{into-fine, number-fine, number-back, tray-back, small, kept}
@@ -77,4 +78,4 @@ window-back k n w t t′ u u′ r q a e m x y f g =
     (placed .0, printed .0, printed .1 ∙ ap (λ x. over x u) reads)
 
 pub demands : Demands
-demands = record { theorems = theorems; number-back = number-back; word-back = word-back; rank-back = rank-back; place-back = place-back; window-back = window-back; walk = walk; one-step = one-step; laid = laid; laid-only = laid-only; kept = kept }
+demands = record { theorems = theorems; number-back = number-back; word-back = word-back; rank-back = rank-back; place-back = place-back; window-back = window-back; walk = walk; one-step = one-step; laid = laid; laid-only = laid-only; kept = kept; listed = whole-listing }

@@ -1,23 +1,20 @@
--- The listing of a plan, line by line; the digits of a word; lines fit a buffer of 128 bytes.
+-- The listing of a plan, line by line; the digits of a word.
 use mathlib.Core.Path.{_≡_, refl, sym, _∙_, ap, ap₂}
 use mathlib.Core.Bool.{true, _&&_}
 use mathlib.Core.List.{List, [], _∷_, _++_, append-nil}
 use mathlib.Core.Logic.{inl, inr}
-use Prim.Native.Nat.{ℕ, zero, suc, _+_, _^_, _≤_, _<_}
+use Prim.Native.Nat.{ℕ, zero, suc, _+_, _<_}
 use native.Mathlib.Omega.{arith}
 use lib.Dec.{eqb}
-use lib.ListN.{length, getD, drop, length-append, drop-of-length-le}
+use lib.ListN.{length, getD, drop, drop-of-length-le}
 use lib.Seq.{drop-cons}
 use borrow.Author.Tests.{lt-ltb}
 use Rattle.theory.specs.Words.{pick}
-use Rattle.theory.specs.Strips.{strip, window}
 use Rattle.theory.specs.Plans.{Section, shades, marks, sectionCount, sections, nthS, planFault}
 use Rattle.theory.proofs.Base.{test}
 use Rattle.theory.proofs.Laying.{sections-length}
-use Rattle.theory.proofs.Reading.{letters-length}
-use Rattle.texts.specs.Texts.{decimal, glyph, glyphs}
-use Rattle.texts.specs.Listings.{fields, stripText, stripLine, sectionLine, sectionLines, refusedLine, lineOf, linesFrom, By-lines}
-use Rattle.texts.proofs.Decimals.{decimal-fits}
+use Rattle.texts.specs.Texts.{glyph, glyphs}
+use Rattle.texts.specs.Listings.{stripLine, sectionLine, sectionLines, refusedLine, lineOf, linesFrom, By-lines}
 
 -- a digit for each letter
 pub glyphs-length : (w : List ℕ) → length (glyphs w) ≡ length w
@@ -30,7 +27,7 @@ glyphs-at (a ∷ w) zero h = refl
 glyphs-at (a ∷ w) (suc i) h = glyphs-at w i (omega arith)
 
 -- the lines behind the first are the sections'
-section-line : (i : ℕ) (s : List ℕ) → eqb (planFault s) 0 ≡ true → i < sectionCount s
+pub section-line : (i : ℕ) (s : List ℕ) → eqb (planFault s) 0 ≡ true → i < sectionCount s
     → lineOf s (suc i) ≡ sectionLine (shades s) (marks s) i (nthS (sections s) i)
 section-line i s t h =
     ap₂ (λ a b. pick (a && b) (sectionLine (shades s) (marks s) i (nthS (sections s) i)) []) t (lt-ltb i (sectionCount s) h)
@@ -61,36 +58,3 @@ by-lines s =
           ∙ append-nil refused
           ∙ sym (ap (λ b. pick b (first ++ rest) refused) t)
     ]
-
--- a line of four fields
-four-fields : (x y z w : List ℕ) → length (fields x (y ∷ z ∷ w ∷ [])) ≡ length x + length y + length z + length w + 4
-four-fields x y z w =
-    omega (
-      arith,
-      length-append x (32 ∷ fields y (z ∷ w ∷ [])),
-      length-append y (32 ∷ fields z (w ∷ [])),
-      length-append z (32 ∷ fields w []),
-      length-append w (10 ∷ []),
-    )
-
-pub section-line-fits : (k n i : ℕ) (x : Section) → i < 2 ^ 64 → x .offset < 2 ^ 64 → x .long < 2 ^ 64 → n ≤ 60 → length (sectionLine k n i x) ≤ 128
-section-line-fits k n i x a b c d =
-    omega (
-      arith,
-      four-fields (decimal i) (decimal (x .offset)) (decimal (x .long)) (glyphs (window k n (x .offset))),
-      decimal-fits i a,
-      decimal-fits (x .offset) b,
-      decimal-fits (x .long) c,
-      glyphs-length (window k n (x .offset)),
-      letters-length (k ^ n) (strip k n) (x .offset) n,
-    )
-
-pub strip-line-fits : (k n : ℕ) → k < 2 ^ 64 → n < 2 ^ 64 → k ^ n < 2 ^ 64 → length (stripLine k n) ≤ 128
-strip-line-fits k n a b c =
-    omega (
-      arith,
-      four-fields stripText (decimal k) (decimal n) (decimal (k ^ n)),
-      decimal-fits k a,
-      decimal-fits n b,
-      decimal-fits (k ^ n) c,
-    )

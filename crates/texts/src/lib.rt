@@ -4,6 +4,7 @@ ghost use mathlib.Core.Path.{_≡_};
 ghost use Prim.Native.Nat.{_+_, _≤_, _<_};
 ghost use lib.ListN.{length};
 ghost use mathlib.Core.Bool.{true};
+ghost use mathlib.Core.List.{[], _∷_, _++_};
 ghost use Rattle.theory.specs.Words.{marksOk};
 ghost use Rattle.texts.specs.Texts.{decimal, glyph, glyphs, Adds};
 
@@ -56,4 +57,14 @@ pub fn put_bytes(bytes: &[u8], out: &mut [u8], at: usize) -> usize
         i += 1;
     }
     at + i
+}
+
+// A number in decimal and one byte behind it.
+pub fn put_number(v: u64, behind: u8, out: &mut [u8], at: usize) -> usize
+    requires { ⌜ at + length (decimal v) < length (now out) ⌝ }
+    ensures { λ r. ⌜ Adds (now (out .entry)) at (decimal v ++ (behind ∷ [])) (now (out .exit)) r ⌝ }
+{
+    let end = put_decimal(v, out, at);
+    out[end] = behind;
+    end + 1
 }

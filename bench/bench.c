@@ -1,0 +1,130 @@
+/* Measures the library's calls beside the same calls in C (plain.c, best.c) and memcpy, after checking that all give the same answers.
+   Prints a line for each call and strip: call, k, n, then the time of plain C, of the best C and of memcpy as multiples of the library's
+   ("-" where there is none). Each time is the least of several rounds, taken in turn. */
+#include "bench.h"
+#include <stdio.h>
+#include <stdlib.h>
+#include <time.h>
+
+enum { RANK, PLACE, WORD, MARK, LOOK, PRINT, CALLS };
+enum { LIBRARY, PLAIN, BEST, COPY, MAKERS };
+enum { INPUTS = 64, ROUNDS = 15, PRINTED = 1 << 20 };
+static const char *const NAMES[CALLS] = {"rank_of", "place_of", "word_of", "mark_at", "look_up", "print_marks"};
+static const uint64_t STRIPS[][2] = {{2, 60}, {4, 30}, {36, 11}};
+
+static uint64_t k, n, numbers[INPUTS];
+static uint8_t words[INPUTS][MOST], plan[4 + 16 * SECTIONS], printed[MAKERS][PRINTED];
+
+#ifndef HAVE_LOOK_UP
+static uint8_t look_up(const uint8_t *p, size_t pl, const uint8_t *w, size_t wl, uint8_t *t, size_t tl) {
+    return best_look_up(p, pl, w, wl, t, tl);
+}
+#endif
+
+static uint64_t draw(void) {
+    static uint64_t seed = 1;
+    uint64_t x = seed += 0x9e3779b97f4a7c15ull;
+    x = (x ^ x >> 30) * 0xbf58476d1ce4e5b9ull;
+    x = (x ^ x >> 27) * 0x94d049bb133111ebull;
+    return x ^ x >> 31;
+}
+
+static void draw_inputs(int call) {
+    uint64_t limit = call == WORD ? lyndon_count(k, n) : places_of(k, n);
+    for (int i = 0; i < INPUTS; i++) {
+        numbers[i] = draw() % limit + (call == WORD);
+        for (uint64_t j = 0; j < n; j++) words[i][j] = (uint8_t)(draw() % k);
+    }
+    uint64_t room = places_of(k, n) / SECTIONS;
+    plan[0] = (uint8_t)k;
+    plan[1] = (uint8_t)n;
+    put_number(plan + 2, SECTIONS, 2);
+    for (uint64_t i = 0; i < SECTIONS; i++) {
+        put_number(plan + 4 + 16 * i, i * room, 8);
+        put_number(plan + 12 + 16 * i, room - i % 2 * (room / 8), 8);
+    }
+}
+
+#define ASK(name, maker)                                                                                                                \
+    case maker:                                                                                                                         \
+        switch (call) {                                                                                                                 \
+        case RANK: return name##rank_of(k, n, words[i], n, tray, MOST);                                                                 \
+        case PLACE: return name##place_of(k, n, words[i], n, tray, MOST);                                                               \
+        case WORD: return name##word_of(k, n, numbers[i], tray, MOST);                                                                  \
+        case MARK: return name##mark_at(k, n, numbers[i], tray, MOST);                                                                  \
+        case LOOK: return name##look_up(plan, sizeof plan, words[i], n, tray, MOST);                                                    \
+        default: return name##print_marks(k, n, numbers[i], PRINTED, printed[maker], PRINTED);                                          \
+        }
+
+static uint8_t ask(int maker, int call, int i, uint8_t *tray) {
+    switch (maker) {
+        ASK(, LIBRARY)
+        ASK(plain_, PLAIN)
+        ASK(best_, BEST)
+    }
+    memcpy(printed[COPY], printed[LIBRARY], PRINTED);
+    __asm__ volatile("" : : "r"(printed[COPY]) : "memory");
+    return 0;
+}
+
+static void check(int call, int inputs) {
+    for (int i = 0; i < inputs; i++) {
+        uint8_t trays[3][MOST] = {{0}}, given[3];
+        for (int maker = LIBRARY; maker <= BEST; maker++) given[maker] = ask(maker, call, i, trays[maker]);
+        for (int maker = PLAIN; maker <= BEST; maker++)
+            if (given[maker] != given[LIBRARY] || memcmp(trays[maker], trays[LIBRARY], MOST) != 0 ||
+                (call == PRINT && memcmp(printed[maker], printed[LIBRARY], PRINTED) != 0)) {
+                fprintf(stderr, "bench: %s on (%d, %d), input %d: answers differ\n", NAMES[call], (int)k, (int)n, i);
+                exit(1);
+            }
+    }
+}
+
+static double now(void) {
+    struct timespec t;
+    clock_gettime(CLOCK_MONOTONIC, &t);
+    return (double)t.tv_sec + 1e-9 * (double)t.tv_nsec;
+}
+
+/* seconds for one pass over the inputs, over enough passes to be measured */
+static double pass(int maker, int call, int inputs) {
+    uint8_t tray[MOST];
+    double start = now(), end = start;
+    int passes = 0;
+    while (passes == 0 || end - start < 0.01) {
+        for (int i = 0; i < inputs; i++) ask(maker, call, i, tray);
+        passes++;
+        end = now();
+    }
+    return (end - start) / passes;
+}
+
+static void measure(int call) {
+    double least[MAKERS];
+    int inputs = call == PRINT ? 4 : INPUTS, makers = call == PRINT ? MAKERS : COPY;
+    draw_inputs(call);
+    check(call, inputs);
+    for (int round = 0; round < ROUNDS; round++)
+        for (int maker = 0; maker < makers; maker++) {
+            double time = pass(maker, call, inputs);
+            if (round == 0 || time < least[maker]) least[maker] = time;
+        }
+    printf("%s %d %d %.4g %.4g ", NAMES[call], (int)k, (int)n, least[PLAIN] / least[LIBRARY], least[BEST] / least[LIBRARY]);
+    if (call == PRINT) printf("%.4g\n", least[COPY] / least[LIBRARY]);
+    else printf("-\n");
+    fflush(stdout);
+}
+
+int main(void) {
+    for (int call = 0; call < CALLS; call++) {
+#ifndef HAVE_LOOK_UP
+        if (call == LOOK) continue;
+#endif
+        for (size_t s = 0; s < sizeof STRIPS / sizeof *STRIPS; s++) {
+            k = STRIPS[s][0];
+            n = STRIPS[s][1];
+            measure(call);
+        }
+    }
+    return 0;
+}

@@ -1,0 +1,104 @@
+/* The calls that are measured, written twice in C with the library's signatures: plain_ as document 004 publishes them, best_ as fast as
+   we can; and what both need to refuse and to answer. */
+#ifndef BENCH_H
+#define BENCH_H
+#include "../include/strip.h"
+#include <string.h>
+
+enum { MOST = 60, SECTIONS = 500 };
+
+#define CALLS_OF(name)                                                                                                                  \
+    uint8_t name##_rank_of(uint64_t k, uint64_t n, const uint8_t *word, size_t word_len, uint8_t *tray, size_t tray_len);              \
+    uint8_t name##_word_of(uint64_t k, uint64_t n, uint64_t index, uint8_t *tray, size_t tray_len);                                    \
+    uint8_t name##_mark_at(uint64_t k, uint64_t n, uint64_t place, uint8_t *tray, size_t tray_len);                                    \
+    uint8_t name##_place_of(uint64_t k, uint64_t n, const uint8_t *window, size_t window_len, uint8_t *tray, size_t tray_len);         \
+    uint8_t name##_print_marks(uint64_t k, uint64_t n, uint64_t place, uint64_t marks, uint8_t *tray, size_t tray_len);                \
+    uint8_t name##_look_up(const uint8_t *plan, size_t plan_len, const uint8_t *window, size_t window_len, uint8_t *tray, size_t tray_len)
+CALLS_OF(plain);
+CALLS_OF(best);
+
+static const int8_t MOBIUS[MOST + 1] = {0, 1,  -1, -1, 0,  -1, 1,  -1, 0, 0, 1,  -1, 0, -1, 1,  1,  0, -1, 0, -1, 0, 1, 1, -1, 0, 0, 1, 0, 0, -1, -1,
+                                        -1, 0, 1,  1,  1,  0,  -1, 1,  1, 0, -1, -1, -1, 0, 0,  1,  -1, 0, 0,  0, 1,  0, -1, 0, 1, 0, 1, 1, -1, 0};
+
+/* k^n, or 0 if the strip is not admitted */
+static inline uint64_t places_of(uint64_t k, uint64_t n) {
+    uint64_t places = 1;
+    if (k < 2 || k > 36 || n < 1 || n > MOST) return 0;
+    for (uint64_t i = 0; i < n; i++) {
+        if (places > ((uint64_t)1 << 60) / k) return 0;
+        places *= k;
+    }
+    return places;
+}
+
+static inline uint8_t word_fault(uint64_t k, uint64_t n, const uint8_t *word, size_t length) {
+    if (places_of(k, n) == 0) return 1;
+    if (length != n) return 2;
+    for (size_t i = 0; i < length; i++)
+        if (word[i] >= k) return 3;
+    return 0;
+}
+
+static inline uint8_t place_fault(uint64_t k, uint64_t n, uint64_t place) {
+    uint64_t places = places_of(k, n);
+    return places == 0 ? 1 : place >= places ? 4 : 0;
+}
+
+static inline uint64_t lyndon_count(uint64_t k, uint64_t n) {
+    int64_t sum = 0;
+    for (uint64_t d = 1, power = k; d <= n; d++, power *= k)
+        if (n % d == 0) sum += MOBIUS[n / d] * (int64_t)power;
+    return (uint64_t)sum / n;
+}
+
+static inline uint64_t get_number(const uint8_t *at, int length) {
+    uint64_t value = 0;
+    if (length == 8) {
+        memcpy(&value, at, 8);
+        return __builtin_bswap64(value);
+    }
+    for (int i = 0; i < length; i++) value = value << 8 | at[i];
+    return value;
+}
+
+static inline void put_number(uint8_t *at, uint64_t value, int length) {
+    for (int i = 0; i < length; i++) at[i] = (uint8_t)(value >> 8 * (length - 1 - i));
+}
+
+static inline uint8_t answer(uint64_t value, uint8_t *tray, size_t tray_len) {
+    if (tray_len < 8) return 6;
+    put_number(tray, value, 8);
+    return 0;
+}
+
+static inline uint8_t plan_fault(const uint8_t *plan, size_t length) {
+    uint64_t places, end = 0;
+    if (length < 4 || get_number(plan + 2, 2) > SECTIONS || length != 4 + 16 * get_number(plan + 2, 2)) return 7;
+    places = places_of(plan[0], plan[1]);
+    if (places == 0) return 1;
+    for (size_t at = 4; at < length; at += 16) {
+        uint64_t offset = get_number(plan + at, 8), size = get_number(plan + at + 8, 8);
+        if (offset < end || offset > places || size < plan[1] || size > places - offset) return 8;
+        end = offset + size;
+    }
+    return 0;
+}
+
+/* the length of the shortest word that, repeated, gives a word that is its own smallest rotation */
+static inline size_t root_of(const uint8_t *word, size_t n) {
+    size_t period = 1;
+    for (size_t i = 1; i < n; i++)
+        if (word[i] != word[i - period]) period = i + 1;
+    return n % period == 0 ? period : n;
+}
+
+/* the step of document 003, section 1.4.2, on a word repeated to n letters: the length of the next Lyndon word, 0 after the last */
+static inline size_t step(uint8_t top, size_t n, uint8_t *word) {
+    size_t j = n;
+    while (j > 0 && word[j - 1] == top) j--;
+    if (j == 0) return 0;
+    word[j - 1]++;
+    for (size_t i = j; i < n; i++) word[i] = word[i - j];
+    return j;
+}
+#endif

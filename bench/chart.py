@@ -1,0 +1,85 @@
+#!/usr/bin/env python3
+"""Turns the ratios that bench prints into docs/BENCH.md and docs/bench.svg, and prints the table."""
+import math
+import sys
+
+BARS = (("document 004 as published", "#b0713a"), ("this library", "#2f6f9f"), ("best C", "#7a9a4a"), ("memcpy", "#999999"))
+ABOUT = """# Measurements
+
+Written by `bash bench/run`: each call beside the same call in C, over the same random inputs, in one run, the least time of several rounds.
+Before it is measured, all answers are compared. Ratios only; on a busy machine they move from run to run, those beside memcpy most.
+
+- **Document 004 as published** (`bench/plain.c`): one table of path counts for each size, O(n^3) for the size of CS, words by bisecting letters.
+- **Best C** (`bench/best.c`): the fastest that we could write, with a shorter way to count (its opening comment) and no proof.
+- **memcpy**: copying as many bytes as were printed.
+
+"""
+
+
+def read_rows(path):
+    rows = []
+    for line in open(path):
+        call, k, n, *ratios = line.split()
+        rows.append((call, "(%s, %s)" % (k, n), [None if ratio == "-" else float(ratio) for ratio in ratios]))
+    return rows
+
+
+def short(value):
+    return "%.0f" % value if value >= 10 else "%.1f" % value if value >= 1 else "%.2g" % value
+
+
+def compared(ratio):
+    """How the library does beside another maker, whose time is this multiple of the library's."""
+    if ratio is None:
+        return ""
+    return "%s times faster" % short(ratio) if ratio >= 1 else "%s times slower" % short(1 / ratio)
+
+
+def table(rows):
+    lines = ["| Call | Strip | Beside document 004 as published | Beside the best C | Beside memcpy |", "|---|---|---|---|---|"]
+    for call, strip, ratios in rows:
+        lines.append("| `%s` | %s | %s |" % (call, strip, " | ".join(compared(ratio) for ratio in ratios)))
+    return "\n".join(lines) + "\n"
+
+
+def chart(rows):
+    """Bars of time, the library's being 1, on a logarithmic scale."""
+    left, width, bar, gap, top = 190, 520, 11, 12, 62
+    times = [[ratios[0], 1.0] + ratios[1:] for _, _, ratios in rows]
+    logs = [math.log10(time) for row in times for time in row if time]
+    low, high = math.floor(min(logs)), math.ceil(max(logs))
+    across = lambda time: left + width * (math.log10(time) - low) / (high - low)
+    body, y = [], top
+    for (call, strip, _), row in zip(rows, times):
+        start = y
+        for time, (_, colour) in zip(row, BARS):
+            if time:
+                body.append('<rect x="%d" y="%d" width="%.1f" height="%d" fill="%s"/>' % (left, y, max(1, across(time) - left), bar - 1, colour))
+                body.append('<text x="%.1f" y="%d">%s</text>' % (max(left + 1, across(time)) + 4, y + bar - 2, short(time)))
+                y += bar
+        body.append('<text x="%d" y="%d" text-anchor="end">%s %s</text>' % (left - 8, (start + y) // 2 + 4, call, strip))
+        y += gap
+    for power in range(low, high + 1):
+        x = across(10**power)
+        body.insert(0, '<line x1="%.1f" y1="%d" x2="%.1f" y2="%d" stroke="#ddd"/>' % (x, top - 6, x, y))
+        body.insert(0, '<text x="%.1f" y="%d" text-anchor="middle">%g</text>' % (x, top - 10, 10.0**power))
+    for i, (name, colour) in enumerate(BARS):
+        x = 12 + 175 * i
+        body.append('<rect x="%d" y="26" width="10" height="10" fill="%s"/><text x="%d" y="35">%s</text>' % (x, colour, x + 14, name))
+    head = '<svg xmlns="http://www.w3.org/2000/svg" width="%d" height="%d" font-family="sans-serif" font-size="11">' % (left + width + 60, y + 10)
+    ground = '<rect width="100%" height="100%" fill="white"/>'
+    title = '<text x="12" y="17" font-size="13">Time for a call, this library being 1 (shorter is faster)</text>'
+    return "\n".join([head, ground, title] + body + ["</svg>"]) + "\n"
+
+
+def main():
+    rows = read_rows(sys.argv[1])
+    print(table(rows), end="")
+    with open("docs/BENCH.md", "w") as page:
+        page.write(ABOUT + table(rows) + "\n![The same as bars](bench.svg)\n")
+    with open("docs/bench.svg", "w") as page:
+        page.write(chart(rows))
+
+
+if __name__ == "__main__":
+    main()

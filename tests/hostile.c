@@ -1,0 +1,501 @@
+/* Calls the library with junk: every set of refusals that can apply together, then inputs drawn with a fixed seed (argument: how many).
+   Checked: the number given back, that a refusal leaves every byte as it was, that an answer leaves the bytes after it, and answers by
+   round trips. Exits 1 if anything is wrong. */
+#include "../include/strip.h"
+#include "lent.h"
+
+enum { RANK, WORD, MARK, PLACE, PRINT, LOOK, CALLS };
+enum { LONGEST = 60, MOST_WORD = 96, MOST_TRAY = 6000, MOST_PLAN = 9000 };
+static const char *const NAMES[CALLS] = {"rank_of", "word_of", "mark_at", "place_of", "print_marks", "look_up"};
+static const unsigned ORDER[] = {7, 1, 8, 10, 2, 3, 4, 5, 9, 6};
+
+struct ask {
+    int call, kind;
+    uint64_t k, n, number, marks;
+    const uint8_t *input, *plan;
+    size_t input_length, plan_length, tray_length;
+};
+
+static struct room input_room, plan_room, tray_room;
+static unsigned long refused[16], failures, round_trips;
+
+static void fail(const struct ask *a, const char *what, unsigned given, unsigned wanted) {
+    if (failures++ >= 20) return;
+    printf("%s: %s; k %llu, n %llu, number %llu, marks %llu, input of %zu, plan of %zu, tray of %zu; given %u, expected %u; input", NAMES[a->call],
+           what, (unsigned long long)a->k, (unsigned long long)a->n, (unsigned long long)a->number, (unsigned long long)a->marks,
+           a->input_length, a->plan_length, a->tray_length, given, wanted);
+    for (size_t i = 0; i < a->input_length; i++) printf(" %u", a->input[i]);
+    printf("; plan");
+    for (size_t i = 0; i < a->plan_length && i < 100; i++) printf(" %02x", a->plan[i]);
+    printf("\n");
+}
+
+/* What the rules say of a call */
+
+static int admitted(uint64_t k, uint64_t n, uint64_t *places) {
+    *places = 1;
+    if (k < 2 || k > 36 || n < 1 || n > 60) return 0;
+    for (uint64_t i = 0; i < n; i++) {
+        if (*places > ((uint64_t)1 << 60) / k) return 0;
+        *places *= k;
+    }
+    return 1;
+}
+
+static int mobius(uint64_t n) {
+    int sign = 1;
+    for (uint64_t p = 2; n > 1; p++) {
+        if (n % p != 0) continue;
+        n /= p;
+        if (n % p == 0) return 0;
+        sign = -sign;
+    }
+    return sign;
+}
+
+static uint64_t lyndon_count(uint64_t k, uint64_t n) {
+    int64_t sum = 0;
+    for (uint64_t d = 1; d <= n; d++) {
+        uint64_t power;
+        if (n % d == 0 && admitted(k, d, &power)) sum += mobius(n / d) * (int64_t)power;
+    }
+    return (uint64_t)sum / n;
+}
+
+static int is_lyndon(const uint8_t *word, size_t n) {
+    for (size_t turn = 1; turn < n; turn++) {
+        size_t i = 0;
+        while (i < n && word[i] == word[(turn + i) % n]) i++;
+        if (i == n || word[i] > word[(turn + i) % n]) return 0;
+    }
+    return 1;
+}
+
+static uint64_t number_in(const uint8_t *bytes, int length) {
+    uint64_t value = 0;
+    for (int i = 0; i < length; i++) value = value << 8 | bytes[i];
+    return value;
+}
+
+static unsigned word_faults(uint64_t k, uint64_t n, const uint8_t *word, size_t length) {
+    unsigned faults = length != n ? 1u << 2 : 0;
+    for (size_t i = 0; i < length; i++)
+        if (word[i] >= k) faults |= 1u << 3;
+    return faults;
+}
+
+#ifdef HAVE_LOOK_UP
+static void put_number(uint8_t *at, uint64_t value, int length) {
+    for (int i = 0; i < length; i++) at[i] = (uint8_t)(value >> 8 * (length - 1 - i));
+}
+
+static unsigned plan_faults(const uint8_t *plan, size_t length) {
+    uint64_t places, end = 0;
+    if (length < 4 || number_in(plan + 2, 2) > 500 || length != 4 + 16 * number_in(plan + 2, 2)) return 1u << 7;
+    if (!admitted(plan[0], plan[1], &places)) return 1u << 1;
+    for (size_t at = 4; at < length; at += 16) {
+        uint64_t offset = number_in(plan + at, 8), size = number_in(plan + at + 8, 8);
+        if (offset < end || offset > places || size < plan[1] || size > places - offset) return 1u << 8;
+        end = offset + size;
+    }
+    return 0;
+}
+
+/* the section and the distance at which a window is laid, as the answer's 10 bytes; 0 if it is not */
+static int laid(const struct ask *a, uint64_t place, uint8_t *answer) {
+    for (size_t at = 4, section = 0; at < a->plan_length; at += 16, section++) {
+        uint64_t offset = number_in(a->plan + at, 8), end = offset + number_in(a->plan + at + 8, 8), n = a->plan[1];
+        if (place < offset || place + n > end) continue;
+        put_number(answer, section, 2);
+        put_number(answer + 2, place - offset, 8);
+        return 1;
+    }
+    return 0;
+}
+#endif
+
+static uint64_t place_by_library(uint64_t k, uint64_t n, const uint8_t *window) {
+    uint8_t tray[8] = {0};
+    return place_of(k, n, window, n, tray, 8) == 0 ? number_in(tray, 8) : UINT64_MAX;
+}
+
+static unsigned look_faults(const struct ask *a) {
+#ifdef HAVE_LOOK_UP
+    uint8_t answer[10];
+    unsigned faults = plan_faults(a->plan, a->plan_length);
+    if (faults & 1u << 7) return faults;
+    faults |= word_faults(a->plan[0], a->plan[1], a->input, a->input_length);
+    if (faults == 0 && !laid(a, place_by_library(a->plan[0], a->plan[1], a->input), answer)) faults |= 1u << 9;
+    return faults;
+#else
+    (void)a;
+    return 0;
+#endif
+}
+
+static size_t answer_length(const struct ask *a) {
+    size_t marks = a->marks > SIZE_MAX ? SIZE_MAX : (size_t)a->marks;
+    return a->call == WORD ? (size_t)a->n : a->call == PRINT ? marks : a->call == LOOK ? 10 : 8;
+}
+
+/* the refusals that apply, 1 << number each; of a place or an index only over an admitted strip, of a tray only if nothing else applies */
+static unsigned faults_of(const struct ask *a) {
+    uint64_t places;
+    unsigned faults = 0;
+    if (a->call == LOOK) {
+        faults = look_faults(a);
+    } else {
+        int good = admitted(a->k, a->n, &places);
+        if (!good) faults |= 1u << 1;
+        if (a->call == RANK || a->call == PLACE) faults |= word_faults(a->k, a->n, a->input, a->input_length);
+        if (good && (a->call == MARK || a->call == PRINT) && a->number >= places) faults |= 1u << 4;
+        if (good && a->call == WORD && (a->number == 0 || a->number > lyndon_count(a->k, a->n))) faults |= 1u << 5;
+    }
+    if (faults == 0 && a->tray_length < answer_length(a)) faults |= 1u << 6;
+    return faults;
+}
+
+static unsigned first_of(unsigned faults) {
+    for (size_t i = 0; i < sizeof ORDER / sizeof *ORDER; i++)
+        if (faults & 1u << ORDER[i]) return ORDER[i];
+    return 0;
+}
+
+/* Answers by round trips */
+
+static int sound_rank(const struct ask *a, uint64_t rank) {
+    uint8_t word[LONGEST], next[LONGEST], tray[8];
+    uint64_t last = lyndon_count(a->k, a->n);
+    if (rank > last) return 0;
+    if (rank > 0) {
+        if (word_of(a->k, a->n, rank, word, a->n) != 0 || memcmp(word, a->input, a->n) > 0) return 0;
+        if (rank_of(a->k, a->n, word, a->n, tray, 8) != 0 || number_in(tray, 8) != rank) return 0;
+    }
+    return rank == last || (word_of(a->k, a->n, rank + 1, next, a->n) == 0 && memcmp(next, a->input, a->n) > 0);
+}
+
+static int sound_word(const struct ask *a, const uint8_t *word) {
+    uint8_t tray[8];
+    return is_lyndon(word, a->n) && rank_of(a->k, a->n, word, a->n, tray, 8) == 0 && number_in(tray, 8) == a->number;
+}
+
+static int sound_place(const struct ask *a, uint64_t place) {
+    uint8_t window[LONGEST];
+    return print_marks(a->k, a->n, place, a->n, window, a->n) == 0 && memcmp(window, a->input, a->n) == 0;
+}
+
+static int sound_mark(const struct ask *a, uint64_t mark) {
+    uint8_t one;
+    return print_marks(a->k, a->n, a->number, 1, &one, 1) == 0 && one == mark;
+}
+
+/* the first window printed, and the last, stand where they were asked for */
+static int sound_print(const struct ask *a, const uint8_t *marks) {
+    uint8_t window[LONGEST];
+    uint64_t places;
+    admitted(a->k, a->n, &places);
+    if (a->marks == 0) return 1;
+    if (a->marks < a->n)
+        return print_marks(a->k, a->n, a->number, a->n, window, a->n) == 0 && memcmp(marks, window, a->marks) == 0 &&
+               place_by_library(a->k, a->n, window) == a->number;
+    return place_by_library(a->k, a->n, marks) == a->number &&
+           place_by_library(a->k, a->n, marks + a->marks - a->n) == (a->number + a->marks - a->n) % places;
+}
+
+static int sound(const struct ask *a, const uint8_t *answer) {
+    round_trips++;
+    switch (a->call) {
+    case RANK: return sound_rank(a, number_in(answer, 8));
+    case WORD: return sound_word(a, answer);
+    case MARK: return sound_mark(a, number_in(answer, 8));
+    case PLACE: return sound_place(a, number_in(answer, 8));
+    case PRINT: return sound_print(a, answer);
+    }
+#ifdef HAVE_LOOK_UP
+    uint8_t right[10];
+    return laid(a, place_by_library(a->plan[0], a->plan[1], a->input), right) && memcmp(answer, right, 10) == 0;
+#else
+    return 0;
+#endif
+}
+
+/* One call */
+
+static unsigned call(const struct ask *a, const uint8_t *input, const uint8_t *plan, const struct lent *tray) {
+    switch (a->call) {
+    case RANK: return rank_of(a->k, a->n, input, a->input_length, tray->bytes, tray->length);
+    case WORD: return word_of(a->k, a->n, a->number, tray->bytes, tray->length);
+    case MARK: return mark_at(a->k, a->n, a->number, tray->bytes, tray->length);
+    case PLACE: return place_of(a->k, a->n, input, a->input_length, tray->bytes, tray->length);
+    case PRINT: return print_marks(a->k, a->n, a->number, a->marks, tray->bytes, tray->length);
+    }
+#ifdef HAVE_LOOK_UP
+    return look_up(plan, a->plan_length, input, a->input_length, tray->bytes, tray->length);
+#else
+    (void)plan;
+    return 0;
+#endif
+}
+
+static void try_call(const struct ask *a) {
+    static uint8_t answer[MOST_TRAY];
+    unsigned wanted = first_of(faults_of(a));
+    struct lent input = lend_copy(input_room, a->input, a->input_length, a->kind);
+    struct lent plan = lend_copy(plan_room, a->plan, a->plan_length, a->kind);
+    struct lent tray = lend(tray_room, a->tray_length, a->kind);
+    unsigned given = call(a, input.bytes, plan.bytes, &tray);
+    size_t length = wanted == 0 && given == 0 ? answer_length(a) : 0;
+    if (length != 0) memcpy(answer, tray.bytes, length);
+    if (given != wanted) fail(a, "number", given, wanted);
+    else if (!holds(&tray, answer, length)) fail(a, "a byte that must stay", given, wanted);
+    else if (!holds(&input, a->input, a->input_length) || !holds(&plan, a->plan, a->plan_length)) fail(a, "an input", given, wanted);
+    else if (given == 0 && !sound(a, answer)) fail(a, "answer", given, wanted);
+    refused[wanted]++;
+    give_back(&input);
+    give_back(&plan);
+    give_back(&tray);
+}
+
+/* with trays of no bytes, one too few, exact, and more; in every kind of memory */
+static void try_trays(struct ask a) {
+    size_t exact = answer_length(&a) <= 64 ? answer_length(&a) : 64;
+    size_t lengths[] = {0, exact == 0 ? 0 : exact - 1, exact, exact + 3, 80};
+    for (size_t i = 0; i < sizeof lengths / sizeof *lengths; i++)
+        for (a.kind = 0; a.kind < KINDS; a.kind++) {
+            a.tray_length = lengths[i];
+            try_call(&a);
+        }
+}
+
+/* Every set of refusals that can apply together */
+
+static const uint64_t STRIPS[][2] = {
+    {3, 4}, {2, 6}, {36, 11}, {2, 60}, {2, 1}, {0, 4}, {1, 4}, {37, 1}, {3, 0}, {2, 61}, {36, 12}, {4, 31}, {0, 0},
+    {(1ull << 32) + 3, 4}, {3, (1ull << 32) + 4}, {256 + 2, 6}, {2, 256 + 6}, {UINT64_MAX, 4}, {3, UINT64_MAX}, {UINT64_MAX, UINT64_MAX}};
+static const uint64_t NUMBERS[] = {0, 1, 2, 8, 9, 63, 64, 80, 81, 1ull << 60, (1ull << 60) - 1, 1ull << 63, UINT64_MAX};
+
+static void all_sets(void) {
+    uint8_t word[MOST_WORD];
+    for (size_t s = 0; s < sizeof STRIPS / sizeof *STRIPS; s++) {
+        struct ask a = {.k = STRIPS[s][0], .n = STRIPS[s][1], .input = word};
+        size_t right = a.n <= 64 ? (size_t)a.n : 4;
+        size_t lengths[] = {right, right + 1, right == 0 ? 0 : right - 1, 0, 90};
+        for (int l = 0; l < 5; l++)
+            for (int bad = 0; bad < 4; bad++) {
+                memset(word, 0, sizeof word);
+                a.input_length = lengths[l];
+                if (bad == 1 && lengths[l] != 0) word[lengths[l] - 1] = a.k > 255 ? 255 : (uint8_t)a.k;
+                if (bad == 2) word[0] = 255;
+                if (bad == 3) memset(word, 255, sizeof word);
+                a.call = RANK;
+                try_trays(a);
+                a.call = PLACE;
+                try_trays(a);
+            }
+        a.input_length = 0;
+        for (size_t i = 0; i < sizeof NUMBERS / sizeof *NUMBERS; i++) {
+            a.number = NUMBERS[i];
+            a.call = WORD;
+            try_trays(a);
+            a.call = MARK;
+            try_trays(a);
+            a.call = PRINT;
+            for (size_t m = 0; m < sizeof NUMBERS / sizeof *NUMBERS; m++) {
+                a.marks = NUMBERS[m];
+                try_trays(a);
+            }
+            a.marks = 0;
+        }
+    }
+}
+
+#ifdef HAVE_LOOK_UP
+/* no section, good ones, and ones that break a rule; the count stands first */
+static const uint64_t SECTIONS[][5] = {{0},           {2, 0, 6, 8, 8},  {1, 12, 4},         {1, 0, 3},
+                                       {1, 13, 4},    {2, 0, 8, 7, 5},  {2, 8, 4, 0, 4},    {1, UINT64_MAX, 4},
+                                       {1, 4, UINT64_MAX - 3}, {2, 0, 4, 4, UINT64_MAX}, {1, 16, 0}, {1, 0, 17}};
+static const uint8_t PLAN_STRIPS[][2] = {{2, 4}, {1, 4}, {2, 0}, {2, 61}, {0, 0}, {255, 255}};
+
+/* tears a record: its end cut or longer, another count of sections */
+static size_t tear(uint8_t *plan, size_t length, int how) {
+    uint64_t m = number_in(plan + 2, 2);
+    switch (how) {
+    case 1: return length - 1;
+    case 2: return length + 1;
+    case 3: return length + 16;
+    case 4: return 3;
+    case 5: return 0;
+    case 6: put_number(plan + 2, m + 1, 2); break;
+    case 7: put_number(plan + 2, m + 256, 2); break;
+    case 8: put_number(plan + 2, 501, 2); return 4 + 16 * 501;
+    case 9: put_number(plan + 2, 65535, 2); break;
+    }
+    return length;
+}
+
+static void all_plan_sets(void) {
+    static const uint8_t windows[][6] = {{4, 0, 0, 0, 0}, {4, 1, 1, 0, 0}, {4, 1, 1, 1, 1}, {3}, {5}, {0}, {4, 0, 0, 0, 2}, {3, 255}, {5, 2, 2}};
+    static uint8_t plan[MOST_PLAN];
+    for (size_t p = 0; p < sizeof PLAN_STRIPS / 2; p++)
+        for (size_t s = 0; s < sizeof SECTIONS / sizeof *SECTIONS; s++)
+            for (int how = 0; how < 10; how++)
+                for (size_t w = 0; w < sizeof windows / sizeof *windows; w++) {
+                    memset(plan, 0, sizeof plan);
+                    memcpy(plan, PLAN_STRIPS[p], 2);
+                    put_number(plan + 2, SECTIONS[s][0], 2);
+                    for (uint64_t i = 0; i < 2 * SECTIONS[s][0]; i++) put_number(plan + 4 + 8 * i, SECTIONS[s][1 + i], 8);
+                    struct ask a = {.call = LOOK, .plan = plan, .input = windows[w] + 1, .input_length = windows[w][0]};
+                    a.plan_length = tear(plan, 4 + 16 * (size_t)SECTIONS[s][0], how);
+                    try_trays(a);
+                }
+}
+#endif
+
+/* Inputs drawn with a fixed seed */
+
+static uint64_t seed = 20261115;
+
+static uint64_t draw(void) {
+    uint64_t x = seed += 0x9e3779b97f4a7c15ull;
+    x = (x ^ x >> 30) * 0xbf58476d1ce4e5b9ull;
+    x = (x ^ x >> 27) * 0x94d049bb133111ebull;
+    return x ^ x >> 31;
+}
+
+static uint64_t below(uint64_t limit) {
+    return limit == 0 ? 0 : draw() % limit;
+}
+
+/* a strip: mostly admitted, else near the limits or far off */
+static void draw_strip(uint64_t *k, uint64_t *n) {
+    uint64_t places;
+    switch (below(8)) {
+    case 0: *k = below(81), *n = below(81); break;
+    case 1: *k = draw() >> below(64), *n = below(2) ? below(61) : draw() >> below(64); break;
+    default:
+        do *k = 2 + below(35), *n = 1 + below(below(2) ? 60 : 8);
+        while (!admitted(*k, *n, &places));
+    }
+}
+
+/* a word: mostly right; any shades, many of the largest, many of the smallest, or a shorter word repeated */
+static size_t draw_word(uint64_t k, uint64_t n, uint8_t *word) {
+    size_t length = below(8) == 0 || n > 64 ? below(81) : (size_t)n;
+    uint64_t shades = k == 0 || k > 255 ? 256 : k, style = below(4), root = 1 + below(n == 0 || n > 64 ? 6 : n);
+    for (size_t i = 0; i < length; i++) {
+        word[i] = (uint8_t)below(shades);
+        if (style == 1 && below(4) != 0) word[i] = (uint8_t)(shades - 1);
+        if (style == 2 && below(4) != 0) word[i] = 0;
+        if (style == 3 && i >= root) word[i] = word[i - root];
+    }
+    if (length != 0 && below(12) == 0) word[below(length)] = (uint8_t)below(256);
+    if (below(40) == 0)
+        for (size_t i = 0; i < length; i++) word[i] = (uint8_t)draw();
+    return length;
+}
+
+static uint64_t draw_number(uint64_t limit) {
+    switch (below(6)) {
+    case 0: return draw() >> below(64);
+    case 1: return limit - 2 + below(4);
+    case 2: return below(4);
+    default: return below(limit);
+    }
+}
+
+#ifdef HAVE_LOOK_UP
+/* a plan that keeps the rules, if its strip is admitted */
+static size_t draw_good_plan(uint64_t k, uint64_t n, uint8_t *plan) {
+    uint64_t places, start = 0, m = 0, most = below(6) == 0 ? 500 : below(6), rare = 4 + most;
+    if (!admitted(k, n, &places)) places = 1000;
+    if (below(2)) start = below(places);
+    while (m < most && start <= places && n <= places - start) {
+        uint64_t room = places - start, size = n + below(3) * below(2 * n + 1);
+        if (below(rare) == 0) size = n + below(room / 2 + 1);
+        if (size > room) size = room;
+        put_number(plan + 4 + 16 * m, start, 8);
+        put_number(plan + 12 + 16 * m, size, 8);
+        start += size + below(2) * below(below(rare) == 0 ? room : n + 2);
+        m++;
+    }
+    plan[0] = (uint8_t)k;
+    plan[1] = (uint8_t)n;
+    put_number(plan + 2, m, 2);
+    return 4 + 16 * (size_t)m;
+}
+
+/* a good plan, one with a few bytes or its end changed, or junk */
+static size_t draw_plan(uint64_t k, uint64_t n, uint8_t *plan) {
+    size_t length = draw_good_plan(k, n, plan);
+    uint64_t style = below(8);
+    if (style == 0) {
+        length = below(below(2) ? 8 : 400);
+        for (size_t i = 0; i < length; i++) plan[i] = (uint8_t)draw();
+    } else if (style == 1) {
+        for (uint64_t i = 1 + below(3); i > 0; i--) plan[below(length)] = (uint8_t)draw();
+    } else if (style == 2 && length > 4) {
+        size_t at = 4 + 8 * (size_t)below((length - 4) / 8);
+        put_number(plan + at, below(2) ? draw() >> below(64) : number_in(plan + at, 8) - n + below(2 * n + 1), 8);
+    } else if (style == 3) {
+        length = below(2) ? below(length) : length + 1 + below(20);
+    }
+    return length;
+}
+
+/* a window that is often one of the plan: at a section's start, its end or across it */
+static size_t draw_window(const uint8_t *plan, size_t length, uint8_t *window) {
+    uint64_t places, n = length >= 4 ? plan[1] : 3, k = length >= 4 ? plan[0] : 3;
+    if (plan_faults(plan, length) != 0 || length == 4 || below(4) == 0) return draw_word(k, n, window);
+    size_t at = 4 + 16 * (size_t)below((length - 4) / 16);
+    uint64_t start = number_in(plan + at, 8), size = number_in(plan + at + 8, 8);
+    uint64_t spots[] = {start, start + size - n, start + size - n + 1, start + below(size), start + size};
+    admitted(k, n, &places);
+    print_marks(k, n, spots[below(5)] % places, n, window, n);
+    return (size_t)n - (below(16) == 0);
+}
+#endif
+
+static void draw_call(void) {
+    static uint8_t word[256], plan[MOST_PLAN];
+    uint64_t places;
+    struct ask a = {.input = word, .plan = plan, .kind = (int)below(KINDS)};
+#ifdef HAVE_LOOK_UP
+    a.call = (int)below(CALLS);
+#else
+    a.call = (int)below(LOOK);
+#endif
+    draw_strip(&a.k, &a.n);
+    admitted(a.k, a.n, &places);
+    if (a.call == RANK || a.call == PLACE) a.input_length = draw_word(a.k, a.n, word);
+    if (a.call == WORD) a.number = draw_number(admitted(a.k, a.n, &places) ? lyndon_count(a.k, a.n) : 100);
+    if (a.call == MARK || a.call == PRINT) a.number = draw_number(places);
+    if (a.call == PRINT) a.marks = below(8) == 0 ? draw() >> below(64) : below(below(8) == 0 ? 2000 : 100);
+#ifdef HAVE_LOOK_UP
+    if (a.call == LOOK) {
+        a.plan_length = draw_plan(a.k % 256, a.n % 256, plan);
+        a.input_length = draw_window(plan, a.plan_length, word);
+    }
+#endif
+    size_t exact = answer_length(&a) < 2000 ? answer_length(&a) : 2000;
+    size_t lengths[] = {exact, exact, exact + 1, exact + 3, exact + below(64), exact == 0 ? 0 : exact - 1, below(64), 0};
+    a.tray_length = lengths[below(8)];
+    try_call(&a);
+}
+
+int main(int count, char **arguments) {
+    unsigned long inputs = count > 1 ? strtoul(arguments[1], NULL, 10) : 400000, total = 0;
+    input_room = make_room(256);
+    plan_room = make_room(MOST_PLAN);
+    tray_room = make_room(MOST_TRAY);
+    all_sets();
+#ifdef HAVE_LOOK_UP
+    all_plan_sets();
+#endif
+    for (unsigned long i = 0; i < inputs; i++) draw_call();
+    for (unsigned i = 0; i <= 10; i++) total += refused[i];
+    printf("%lu hostile calls;", total);
+    for (unsigned i = 0; i <= 10; i++)
+        if (refused[i] != 0) printf(" number %u: %lu,", i, refused[i]);
+    printf(" %lu answers tried by round trips, %lu calls wrong\n", round_trips, failures);
+    return failures != 0;
+}

@@ -1,0 +1,139 @@
+/* Reads calls with expected results, as vectors.py prints them, and compares the library: the number given back, the answer, and every
+   byte that must stay, with trays one byte short, exact and longer. Exits 1 if anything differs. */
+#include "../include/strip.h"
+#include "lent.h"
+
+enum { MOST_BYTES = 1 << 14, CALLS = 6 };
+static const char *const NAMES[CALLS] = {"rank", "word", "mark", "place", "print", "look"};
+
+struct vector {
+    int call;
+    uint64_t k, n, number, marks;
+    size_t input_length, plan_length, answer_length;
+    uint8_t input[MOST_BYTES], plan[MOST_BYTES], answer[MOST_BYTES];
+    unsigned refusal;
+};
+
+static struct room input_room, plan_room, tray_room;
+static unsigned long compared[CALLS], skipped, failures;
+static struct vector v;
+
+static void bad_line(const char *why) {
+    fprintf(stderr, "vectors: %s\n", why);
+    exit(2);
+}
+
+static const char *field(void) {
+    const char *text = strtok(NULL, " \n");
+    if (text == NULL) bad_line("a field is missing");
+    return text;
+}
+
+static uint64_t number_field(void) {
+    return strtoull(field(), NULL, 10);
+}
+
+static unsigned digit(char c) {
+    if (c >= '0' && c <= '9') return (unsigned)(c - '0');
+    if (c < 'a' || c > 'f') bad_line("no hexadecimal digit");
+    return (unsigned)(c - 'a' + 10);
+}
+
+static size_t bytes_field(uint8_t *into) {
+    const char *text = field();
+    size_t length = strcmp(text, "-") == 0 ? 0 : strlen(text) / 2;
+    if (length > MOST_BYTES) bad_line("too many bytes");
+    for (size_t i = 0; i < length; i++) into[i] = (uint8_t)(digit(text[2 * i]) << 4 | digit(text[2 * i + 1]));
+    return length;
+}
+
+static void parse(char *line) {
+    const char *name = strtok(line, " \n");
+    v.call = 0;
+    while (v.call < CALLS && strcmp(name, NAMES[v.call]) != 0) v.call++;
+    if (v.call == CALLS) bad_line("no such call");
+    v.input_length = v.plan_length = 0;
+    if (v.call == 5) {
+        v.plan_length = bytes_field(v.plan);
+    } else {
+        v.k = number_field();
+        v.n = number_field();
+    }
+    if (v.call == 0 || v.call == 3 || v.call == 5) v.input_length = bytes_field(v.input);
+    else v.number = number_field();
+    if (v.call == 4) v.marks = number_field();
+    v.refusal = (unsigned)number_field();
+    v.answer_length = bytes_field(v.answer);
+}
+
+static unsigned call(const struct lent *input, const struct lent *plan, const struct lent *tray) {
+    switch (v.call) {
+    case 0: return rank_of(v.k, v.n, input->bytes, input->length, tray->bytes, tray->length);
+    case 1: return word_of(v.k, v.n, v.number, tray->bytes, tray->length);
+    case 2: return mark_at(v.k, v.n, v.number, tray->bytes, tray->length);
+    case 3: return place_of(v.k, v.n, input->bytes, input->length, tray->bytes, tray->length);
+    case 4: return print_marks(v.k, v.n, v.number, v.marks, tray->bytes, tray->length);
+#ifdef HAVE_LOOK_UP
+    case 5: return look_up(plan->bytes, plan->length, input->bytes, input->length, tray->bytes, tray->length);
+#endif
+    }
+    (void)plan;
+    exit(2);
+}
+
+static void compare(size_t tray_length, unsigned long line) {
+    int kind = (int)((compared[v.call] + line) % KINDS);
+    struct lent input = lend_copy(input_room, v.input, v.input_length, kind);
+    struct lent plan = lend_copy(plan_room, v.plan, v.plan_length, kind);
+    struct lent tray = lend(tray_room, tray_length, kind);
+    unsigned refusal = v.refusal == 0 && tray_length < v.answer_length ? 6 : v.refusal;
+    unsigned given = call(&input, &plan, &tray);
+    int right = given == refusal && holds(&tray, v.answer, refusal == 0 ? v.answer_length : 0) && holds(&input, v.input, v.input_length) &&
+                holds(&plan, v.plan, v.plan_length);
+    if (!right && failures++ < 20)
+        printf("line %lu (%s), tray of %zu: number %u, expected %u%s\n", line, NAMES[v.call], tray_length, given, refusal,
+               given == refusal ? ", but other bytes" : "");
+    compared[v.call]++;
+    give_back(&input);
+    give_back(&plan);
+    give_back(&tray);
+}
+
+/* refused ones with trays of any length, so that 6 comes after all others */
+static void compare_all(unsigned long line) {
+    static const size_t lengths[] = {0, 7, 64};
+    if (v.refusal != 0) {
+        for (size_t i = 0; i < 3; i++) compare(lengths[i], line);
+        return;
+    }
+    if (v.answer_length != 0) compare(v.answer_length - 1, line);
+    compare(v.answer_length, line);
+    compare(v.answer_length + 3, line);
+}
+
+int main(void) {
+    char *line = NULL;
+    size_t room = 0;
+    unsigned long lines = 0;
+    input_room = make_room(MOST_BYTES);
+    plan_room = make_room(MOST_BYTES);
+    tray_room = make_room(MOST_BYTES + 3);
+    while (getline(&line, &room, stdin) > 0) {
+        lines++;
+        parse(line);
+#ifndef HAVE_LOOK_UP
+        if (v.call == 5) {
+            skipped++;
+            continue;
+        }
+#endif
+        compare_all(lines);
+    }
+    free(line);
+    unsigned long total = 0;
+    for (int i = 0; i < CALLS; i++) total += compared[i];
+    printf("%lu vectors compared in %lu calls;", lines - skipped, total);
+    for (int i = 0; i < CALLS; i++) printf(" %s %lu,", NAMES[i], compared[i]);
+    printf(" %lu lines skipped, %lu calls differ\n", skipped, failures);
+    return failures != 0 || total == 0;
+}

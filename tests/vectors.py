@@ -1,0 +1,317 @@
+#!/usr/bin/env python3
+"""Prints calls with their expected results, one a line, made with model.py; read by vectors.c.
+
+    rank  K N WORD        REFUSAL ANSWER        mark  K N PLACE       REFUSAL ANSWER
+    word  K N INDEX       REFUSAL ANSWER        print K N PLACE MARKS REFUSAL ANSWER
+    place K N WINDOW      REFUSAL ANSWER        look  PLAN WINDOW     REFUSAL ANSWER
+
+Bytes are written in hexadecimal, no bytes as "-". An optional argument is the most places of a small strip, of which all is printed.
+"""
+import random
+import sys
+from itertools import product
+
+import model
+from model import LARGE, admitted, letters, plan_bytes, small_strips, strip_of
+
+HUGE = (2**60, 2**60 + 1, 2**63, 2**64 - 1)
+
+
+def text(data):
+    return bytes(data).hex() or "-"
+
+
+def rank(k, n, word):
+    fault, answer = model.rank_of(k, n, word)
+    print("rank", k, n, text(word), fault, text(answer))
+
+
+def word(k, n, index):
+    fault, answer = model.word_of(k, n, index)
+    print("word", k, n, index, fault, text(answer))
+
+
+def mark(k, n, place):
+    fault, answer = model.mark_at(k, n, place)
+    print("mark", k, n, place, fault, text(answer))
+
+
+def place(k, n, window):
+    fault, answer = model.place_of(k, n, window)
+    print("place", k, n, text(window), fault, text(answer))
+
+
+def marks(k, n, start, count):
+    fault, answer = model.print_marks(k, n, start, count)
+    print("print", k, n, start, count, fault, text(answer))
+
+
+def look(plan, window):
+    fault, answer = model.look_up(plan, window)
+    print("look", text(plan), text(window), fault, text(answer))
+
+
+def both(k, n, marks_):
+    rank(k, n, marks_)
+    place(k, n, marks_)
+
+
+# Cases named in the documents
+
+def cases_of_the_rules():
+    for written in ("00", "10", "20", "21", "22"):
+        both(3, 2, letters(written))
+    for shade in range(5):
+        both(4, 1, (shade,))
+    marks(4, 1, 0, 4)
+    marks(3, 2, 0, 9)
+    marks(2, 4, 0, 16)
+    for index in range(12):
+        word(2, 6, index)
+    for start in range(7, 11):
+        mark(3, 2, start)
+        marks(3, 2, start, 3)
+    for window in ((3, 0), (0, 3), (3, 3)):
+        both(3, 2, window)
+    for written in ("000000", "100100", "101010", "010111", "111111", "100000", "011010"):
+        both(2, 6, letters(written))
+    for k, n in ((2, 60), (4, 30), (32, 12), (10, 18), (2, 61), (4, 31), (33, 12), (10, 19), (1, 5), (2, 0), (36, 11), (36, 12), (37, 1), (36, 1)):
+        both(k, n, (0,) * n)
+        mark(k, n, 0)
+        word(k, n, 1)
+        marks(k, n, 0, 3)
+
+
+def plans_of_the_rules():
+    for sections in ([(12, 4)], [(13, 4)], [(0, 3)], [(0, 8), (7, 5)], [], [(0, 6), (8, 8)], [(0, 8), (8, 8)], [(0, 16)]):
+        for window in model.words(2, 4):
+            look(plan_bytes(2, 4, sections), window)
+
+
+def cases_of_document_003():
+    for n, cycle in enumerate(model.CYCLES, 2):
+        marks(2, n, 0, len(cycle))
+        for start in range(len(cycle)):
+            window = (letters(cycle) * 2)[start:start + n]
+            place(2, n, window)
+    fives = [letters(w) for w, end in zip(model.LENGTH_5, model.ENDS_5) if end == 5]
+    for index, w in enumerate(fives, 1):
+        assert model.word_of(2, 5, index) == (0, bytes(w))
+        word(2, 5, index)
+    for w in model.LENGTH_5:
+        both(2, 5, letters(w))
+
+
+def cases_of_document_004():
+    rank(2, 6, letters("abbaba"))
+    rank(2, 6, letters("ababbb"))
+    for index, w in enumerate(model.ONLY_6, 1):
+        assert model.word_of(2, 6, index) == (0, bytes(letters(w)))
+        word(2, 6, index)
+        both(2, 6, letters(w))
+    marks(2, 6, 0, 64)
+    start = 0
+    for w in model.STRIP_6:
+        marks(2, 6, start, len(w))
+        start += len(w)
+
+
+# Everything of a small strip
+
+def whole_strip(k, n):
+    strip = strip_of(k, n)
+    for w in model.words(k, n):
+        both(k, n, w)
+    for index in list(range(strip.count() + 2)) + list(HUGE):
+        word(k, n, index)
+    for start in list(range(strip.places + 1)) + list(HUGE):
+        mark(k, n, start)
+        marks(k, n, start, n)
+    last = strip.places - 1
+    for start, count in product((0, 1 % strip.places, strip.places // 2, last), (0, 1, last, last + 1, last + 2, 2 * last + 5)):
+        marks(k, n, start, count)
+
+
+# Parts of a large strip
+
+def runs(k, n, chance):
+    """A word of k - 1 and 0, or of neighbouring shades: where the cases of the locator part."""
+    low, high = chance.choice(((0, k - 1), (k - 2, k - 1), (0, 1), (k // 2 - 1, k - 1)))
+    w = []
+    while len(w) < n:
+        w += [chance.choice((low, high))] * chance.randint(1, max(1, n // 3))
+    return w[:n]
+
+
+def repeated(k, n, chance):
+    """A shorter word repeated and turned, at times with one mark changed."""
+    d = chance.choice(model.divisors(n))
+    w = [chance.randrange(k) for _ in range(d)] * (n // d)
+    turn = chance.randrange(n)
+    w = w[turn:] + w[:turn]
+    if chance.random() < 0.5:
+        w[chance.randrange(n)] = chance.randrange(k)
+    return w
+
+
+def plain(k, n, chance):
+    return [chance.randrange(k) for _ in range(n)]
+
+
+def topped(k, n, chance):
+    """Shades k - 1, then the beginning of a Lyndon word of the strip: the locator's hardest case."""
+    w = model.necklace_not_above(k, tuple(chance.choice((plain, runs))(k, n, chance)))
+    turn = chance.randint(1, n)
+    return ([k - 1] * turn + list(w))[:n]
+
+
+def part_of_strip(k, n, chance, many):
+    strip = strip_of(k, n)
+    for tops in range(n + 1):
+        both(k, n, [k - 1] * tops + [0] * (n - tops))
+        both(k, n, [0] * tops + [k - 1] * (n - tops))
+    for _ in range(many):
+        for make in (runs, repeated, plain, topped):
+            both(k, n, tuple(make(k, n, chance)))
+    edges = [0, 1, n - 1, n, n + 1, strip.places // 2, strip.places // k, strip.places - n, strip.places - n + 1, strip.places - 1]
+    for start in edges + [chance.randrange(strip.places) for _ in range(many // 2)]:
+        mark(k, n, start)
+        marks(k, n, start, chance.choice((0, 1, n - 1, n, n + 1, 2 * n, 300)))
+        window = strip.marks(start, n)
+        place(k, n, window)
+    last = strip.count()
+    for index in [1, 2, 3, last // 2, last - 1, last] + [chance.randint(1, last) for _ in range(many // 2)]:
+        word(k, n, index)
+        rank(k, n, strip.word(index))
+    for value in (strip.places, strip.places + 1) + HUGE:
+        mark(k, n, value)
+        marks(k, n, value, 2)
+        marks(k, n, value, 0)
+        word(k, n, value)
+    word(k, n, 0)
+    word(k, n, last + 1)
+
+
+# Refusals alone and together
+
+def refusals():
+    strips = ((3, 4), (2, 6), (1, 4), (0, 4), (37, 4), (3, 0), (3, 61), (36, 12), (2, 61), (0, 0),
+              (2**32 + 3, 4), (3, 2**32 + 4), (2**64 - 1, 2**64 - 1))
+    for k, n in strips:
+        right = n if n <= 64 else 4
+        for length, bad in product((right, right - 1, right + 1, 0), (None, min(k, 255), 255)):
+            w = [0] * max(0, length)
+            if bad is not None and w:
+                w[-1] = bad
+            both(k, n, w)
+        for value in (0, 1, 8, 63, 64, 80, 81, 82) + HUGE:
+            word(k, n, value)
+            mark(k, n, value)
+            for count in (0, 1, 9):
+                marks(k, n, value, count)
+
+
+def torn(plan):
+    """Records that are torn: cut, too long, with a wrong count of sections."""
+    yield from (plan[:0], plan[:1], plan[:3], plan[:-1], plan + b"\0", plan + b"\0" * 16)
+    m = int.from_bytes(plan[2:4], "big")
+    for other in (m + 1, m + 256, 501, 65535):
+        yield plan[:2] + other.to_bytes(2, "big") + plan[4:]
+    if m:
+        yield plan[:4]
+    yield plan_bytes(plan[0], plan[1], [(0, 4)] * 501)
+
+
+def plan_refusals():
+    good, crooked = [(0, 6), (8, 8)], [(0, 6), (5, 8)]
+    windows = [bytes(w) for w in ((0, 0, 0, 0), (1, 0, 0, 0), (0, 0, 0), (0, 0, 0, 0, 0), (0, 0, 0, 2), (0, 0, 255), (2,) * 5, ())]
+    for k, n in ((2, 4), (1, 4), (2, 0), (2, 61), (0, 0), (255, 255), (37, 1)):
+        for sections in (good, crooked, []):
+            plan = plan_bytes(k, n, sections)
+            for window in windows:
+                look(plan, window)
+                for broken in torn(plan):
+                    look(broken, window)
+    places, n = 16, 4
+    bends = ([(0, n - 1)], [(0, 0)], [(places - n + 1, n)], [(places, n)], [(places, 0)], [(0, places + 1)],
+             [(2**64 - 1, n)], [(2**64 - n, n)], [(0, 2**64 - 1)], [(4, 2**64 - 4)], [(1, 2**64 - 1)], [(2**64 - 8, 8), (0, 4)],
+             [(8, 4), (0, 4)], [(0, 4), (3, 4)], [(0, 4), (0, 4)], [(0, 4), (4, 4), (7, 4)], [(0, 4), (4, 3)], [(0, 8), (8, 9)])
+    for sections in bends:
+        for window in windows:
+            look(plan_bytes(2, 4, sections), window)
+
+
+# Plans with lookups
+
+def random_sections(places, n, most, chance):
+    """Good sections: some touch, some have a gap, some are as short as may be."""
+    sections, start = [], chance.choice((0, chance.randrange(places)))
+    while len(sections) < most and start + n <= places:
+        length = min(places - start, n + chance.choice((0, 0, 1, chance.randrange(3 * n), chance.randrange(places))))
+        sections.append((start, length))
+        start += length + chance.choice((0, 0, 1, n - 1, chance.randrange(2 * n), chance.randrange(places)))
+    return sections
+
+
+def bent(sections, n, chance):
+    """The sections with one number moved a little: often, but not always, refused."""
+    sections = [list(pair) for pair in sections]
+    if sections:
+        pair, at = chance.choice(sections), chance.randrange(2)
+        pair[at] = max(0, pair[at] + chance.choice((-n, -1, 1, n)))
+    return [tuple(pair) for pair in sections]
+
+
+def small_plans(chance, many):
+    strips = [(k, n) for k, n in small_strips(300) if k <= 36]
+    for _ in range(many):
+        k, n = chance.choice(strips)
+        sections = random_sections(k**n, n, chance.randint(0, 6), chance)
+        plan = plan_bytes(k, n, sections)
+        for start in range(k**n):
+            look(plan, strip_of(k, n).marks(start, n))
+        broken = plan_bytes(k, n, bent(sections, n, chance))
+        for start in chance.sample(range(k**n), min(3, k**n)):
+            look(broken, strip_of(k, n).marks(start, n))
+
+
+def spread(places, n, m, chance):
+    """m sections over the whole strip, each second one touching the next."""
+    room = places // m
+    return [(i * room, room if i % 2 else chance.randint(n, room)) for i in range(m)]
+
+
+def large_plans(chance, many):
+    for k, n in LARGE:
+        strip = strip_of(k, n)
+        for m in (1, 2, 255, 256, 257, 499, 500):
+            sections = spread(strip.places, n, m, chance)
+            plan = plan_bytes(k, n, sections)
+            for _ in range(many):
+                offset, length = chance.choice(sections)
+                at = chance.choice((offset, offset + length - n, offset + length - n + 1, offset + length - 1, offset + chance.randrange(length)))
+                look(plan, strip.marks(at % strip.places, n))
+            look(plan_bytes(k, n, bent(sections, n, chance)), strip.marks(0, n))
+            look(plan, strip.marks(strip.places - 1, n))
+
+
+def main():
+    most = int(sys.argv[1]) if len(sys.argv) > 1 else 4096
+    chance = random.Random(20261115)
+    cases_of_the_rules()
+    plans_of_the_rules()
+    cases_of_document_003()
+    cases_of_document_004()
+    refusals()
+    plan_refusals()
+    for k, n in small_strips(most):
+        assert admitted(k, n)
+        whole_strip(k, n)
+    for k, n in LARGE:
+        part_of_strip(k, n, chance, 60)
+    small_plans(chance, 200)
+    large_plans(chance, 6)
+
+
+if __name__ == "__main__":
+    main()
