@@ -1,0 +1,63 @@
+#!/usr/bin/env python3
+"""What the program `cases` must print, by the model of the rules."""
+import model
+from model import Counted, admitted, is_lyndon, rank_of, root_length, smallest_rotation, word_fault
+
+
+def digits(word):
+    return "".join(map(str, word))
+
+
+def into(tray, answer):
+    return answer + tray[len(answer):]
+
+
+def rank(k, n, word):
+    fault, answer = rank_of(k, n, word)
+    print("rank", k, n, digits(word), fault, bytes(into([170] * 10, list(answer))).hex())
+
+
+def word_of(k, n, index):
+    fault, answer = model.word_of(k, n, index)
+    print("word", k, n, index, fault, digits(into([7] * 8, list(answer))))
+
+
+def words(k, n, last):
+    for index in range(last + 1):
+        word_of(k, n, index)
+
+
+def count(k, n):
+    print("count", k, n, *((0, Counted(k, n).count()) if admitted(k, n) else (1, 0)))
+
+
+def tests(k, n, word):
+    fault = word_fault(k, n, word)
+    print("lyndon", k, n, digits(word), fault, 0 if fault else int(is_lyndon(word)))
+    print("root", k, n, digits(word), fault, 0 if fault else root_length(word))
+    print("rotation", k, n, digits(word), fault, digits(into([7] * 8, [] if fault else list(smallest_rotation(word)))))
+
+
+def main():
+    for k, n, word in ((3, 2, (0, 0)), (3, 2, (2, 2)), (3, 2, (3, 0)), (3, 2, (0,)), (4, 1, (2,)), (1, 6, (0,))):
+        rank(k, n, word)
+    words(2, 6, 10)
+    for k, n in ((2, 6), (37, 1), (2, 61), (2, 60), (36, 11), (36, 12)):
+        count(k, n)
+    for k, n, last in ((2, 5, 7), (2, 1, 3), (2, 2, 2), (2, 3, 3)):
+        words(k, n, last)
+    rank(2, 6, (0, 1, 1, 0, 1, 0))
+    rank(2, 6, (0, 1, 0, 1, 1, 1))
+    for k, n, word in (
+        (2, 6, (0, 1, 1, 0, 1, 0)),
+        (2, 6, (0, 1, 0, 1, 1, 1)),
+        (2, 6, (1, 0, 0, 1, 0, 0)),
+        (2, 6, (1, 1, 1, 1, 1, 1)),
+        (3, 2, (2, 3)),
+        (3, 2, (2, 1, 0)),
+    ):
+        tests(k, n, word)
+
+
+if __name__ == "__main__":
+    main()
