@@ -15,11 +15,6 @@ static const uint64_t STRIPS[][2] = {{2, 60}, {4, 30}, {36, 11}};
 static uint64_t k, n, numbers[INPUTS];
 static uint8_t words[INPUTS][MOST], plan[4 + 16 * SECTIONS], printed[MAKERS][PRINTED];
 
-#ifndef HAVE_LOOK_UP
-static uint8_t look_up(const uint8_t *p, size_t pl, const uint8_t *w, size_t wl, uint8_t *t, size_t tl) {
-    return best_look_up(p, pl, w, wl, t, tl);
-}
-#endif
 
 static uint64_t draw(void) {
     static uint64_t seed = 1;
@@ -117,9 +112,6 @@ static void measure(int call) {
 
 int main(void) {
     for (int call = 0; call < CALLS; call++) {
-#ifndef HAVE_LOOK_UP
-        if (call == LOOK) continue;
-#endif
         for (size_t s = 0; s < sizeof STRIPS / sizeof *STRIPS; s++) {
             k = STRIPS[s][0];
             n = STRIPS[s][1];

@@ -11,6 +11,7 @@ Before it is measured, all answers are compared. Ratios only; on a busy machine 
 
 - **Document 004 as published** (`bench/plain.c`): one table of path counts for each size, O(n^3) for the size of CS, words by bisecting letters.
 - **Best C** (`bench/best.c`): the fastest that we could write, with a shorter way to count (its opening comment) and no proof.
+  For a cursor's step (`bench/strides.c`, called from no C): the same tests and steps, a million on each strip.
 - **memcpy**: copying as many bytes as were printed.
 
 """
@@ -20,7 +21,8 @@ def read_rows(path):
     rows = []
     for line in open(path):
         call, k, n, *ratios = line.split()
-        rows.append((call, "(%s, %s)" % (k, n), [None if ratio == "-" else float(ratio) for ratio in ratios]))
+        strip = "all three" if k == "all" else "(%s, %s)" % (k, n)
+        rows.append((call, strip, [None if ratio == "-" else float(ratio) for ratio in ratios]))
     return rows
 
 

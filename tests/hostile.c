@@ -84,7 +84,6 @@ static unsigned word_faults(uint64_t k, uint64_t n, const uint8_t *word, size_t 
     return faults;
 }
 
-#ifdef HAVE_LOOK_UP
 static void put_number(uint8_t *at, uint64_t value, int length) {
     for (int i = 0; i < length; i++) at[i] = (uint8_t)(value >> 8 * (length - 1 - i));
 }
@@ -112,7 +111,6 @@ static int laid(const struct ask *a, uint64_t place, uint8_t *answer) {
     }
     return 0;
 }
-#endif
 
 static uint64_t place_by_library(uint64_t k, uint64_t n, const uint8_t *window) {
     uint8_t tray[8] = {0};
@@ -120,17 +118,12 @@ static uint64_t place_by_library(uint64_t k, uint64_t n, const uint8_t *window) 
 }
 
 static unsigned look_faults(const struct ask *a) {
-#ifdef HAVE_LOOK_UP
     uint8_t answer[10];
     unsigned faults = plan_faults(a->plan, a->plan_length);
     if (faults & 1u << 7) return faults;
     faults |= word_faults(a->plan[0], a->plan[1], a->input, a->input_length);
     if (faults == 0 && !laid(a, place_by_library(a->plan[0], a->plan[1], a->input), answer)) faults |= 1u << 9;
     return faults;
-#else
-    (void)a;
-    return 0;
-#endif
 }
 
 static size_t answer_length(const struct ask *a) {
@@ -211,12 +204,8 @@ static int sound(const struct ask *a, const uint8_t *answer) {
     case PLACE: return sound_place(a, number_in(answer, 8));
     case PRINT: return sound_print(a, answer);
     }
-#ifdef HAVE_LOOK_UP
     uint8_t right[10];
     return laid(a, place_by_library(a->plan[0], a->plan[1], a->input), right) && memcmp(answer, right, 10) == 0;
-#else
-    return 0;
-#endif
 }
 
 /* One call */
@@ -229,12 +218,7 @@ static unsigned call(const struct ask *a, const uint8_t *input, const uint8_t *p
     case PLACE: return place_of(a->k, a->n, input, a->input_length, tray->bytes, tray->length);
     case PRINT: return print_marks(a->k, a->n, a->number, a->marks, tray->bytes, tray->length);
     }
-#ifdef HAVE_LOOK_UP
     return look_up(plan, a->plan_length, input, a->input_length, tray->bytes, tray->length);
-#else
-    (void)plan;
-    return 0;
-#endif
 }
 
 static void try_call(const struct ask *a) {
@@ -309,7 +293,6 @@ static void all_sets(void) {
     }
 }
 
-#ifdef HAVE_LOOK_UP
 /* no section, good ones, and ones that break a rule; the count stands first */
 static const uint64_t SECTIONS[][5] = {{0},           {2, 0, 6, 8, 8},  {1, 12, 4},         {1, 0, 3},
                                        {1, 13, 4},    {2, 0, 8, 7, 5},  {2, 8, 4, 0, 4},    {1, UINT64_MAX, 4},
@@ -349,7 +332,6 @@ static void all_plan_sets(void) {
                     try_trays(a);
                 }
 }
-#endif
 
 /* Inputs drawn with a fixed seed */
 
@@ -403,7 +385,6 @@ static uint64_t draw_number(uint64_t limit) {
     }
 }
 
-#ifdef HAVE_LOOK_UP
 /* a plan that keeps the rules, if its strip is admitted */
 static size_t draw_good_plan(uint64_t k, uint64_t n, uint8_t *plan) {
     uint64_t places, start = 0, m = 0, most = below(6) == 0 ? 500 : below(6), rare = 4 + most;
@@ -453,29 +434,22 @@ static size_t draw_window(const uint8_t *plan, size_t length, uint8_t *window) {
     print_marks(k, n, spots[below(5)] % places, n, window, n);
     return (size_t)n - (below(16) == 0);
 }
-#endif
 
 static void draw_call(void) {
     static uint8_t word[256], plan[MOST_PLAN];
     uint64_t places;
     struct ask a = {.input = word, .plan = plan, .kind = (int)below(KINDS)};
-#ifdef HAVE_LOOK_UP
     a.call = (int)below(CALLS);
-#else
-    a.call = (int)below(LOOK);
-#endif
     draw_strip(&a.k, &a.n);
     admitted(a.k, a.n, &places);
     if (a.call == RANK || a.call == PLACE) a.input_length = draw_word(a.k, a.n, word);
     if (a.call == WORD) a.number = draw_number(admitted(a.k, a.n, &places) ? lyndon_count(a.k, a.n) : 100);
     if (a.call == MARK || a.call == PRINT) a.number = draw_number(places);
     if (a.call == PRINT) a.marks = below(8) == 0 ? draw() >> below(64) : below(below(8) == 0 ? 2000 : 100);
-#ifdef HAVE_LOOK_UP
     if (a.call == LOOK) {
         a.plan_length = draw_plan(a.k % 256, a.n % 256, plan);
         a.input_length = draw_window(plan, a.plan_length, word);
     }
-#endif
     size_t exact = answer_length(&a) < 2000 ? answer_length(&a) : 2000;
     size_t lengths[] = {exact, exact, exact + 1, exact + 3, exact + below(64), exact == 0 ? 0 : exact - 1, below(64), 0};
     a.tray_length = lengths[below(8)];
@@ -488,9 +462,7 @@ int main(int count, char **arguments) {
     plan_room = make_room(MOST_PLAN);
     tray_room = make_room(MOST_TRAY);
     all_sets();
-#ifdef HAVE_LOOK_UP
     all_plan_sets();
-#endif
     for (unsigned long i = 0; i < inputs; i++) draw_call();
     for (unsigned i = 0; i <= 10; i++) total += refused[i];
     printf("%lu hostile calls;", total);

@@ -73,9 +73,7 @@ static unsigned call(const struct lent *input, const struct lent *plan, const st
     case 2: return mark_at(v.k, v.n, v.number, tray->bytes, tray->length);
     case 3: return place_of(v.k, v.n, input->bytes, input->length, tray->bytes, tray->length);
     case 4: return print_marks(v.k, v.n, v.number, v.marks, tray->bytes, tray->length);
-#ifdef HAVE_LOOK_UP
     case 5: return look_up(plan->bytes, plan->length, input->bytes, input->length, tray->bytes, tray->length);
-#endif
     }
     (void)plan;
     exit(2);
@@ -121,12 +119,6 @@ int main(void) {
     while (getline(&line, &room, stdin) > 0) {
         lines++;
         parse(line);
-#ifndef HAVE_LOOK_UP
-        if (v.call == 5) {
-            skipped++;
-            continue;
-        }
-#endif
         compare_all(lines);
     }
     free(line);
