@@ -15,7 +15,7 @@ struct vector {
 };
 
 static struct room input_room, plan_room, tray_room;
-static unsigned long compared[CALLS], skipped, failures;
+static unsigned long compared[CALLS], failures;
 static struct vector v;
 
 static void bad_line(const char *why) {
@@ -124,8 +124,8 @@ int main(void) {
     free(line);
     unsigned long total = 0;
     for (int i = 0; i < CALLS; i++) total += compared[i];
-    printf("%lu vectors compared in %lu calls;", lines - skipped, total);
+    printf("%lu vectors compared in %lu calls;", lines, total);
     for (int i = 0; i < CALLS; i++) printf(" %s %lu,", NAMES[i], compared[i]);
-    printf(" %lu lines skipped, %lu calls differ\n", skipped, failures);
+    printf(" %lu calls differ\n", failures);
     return failures != 0 || total == 0;
 }
