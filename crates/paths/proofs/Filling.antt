@@ -4,14 +4,14 @@ use mathlib.Core.List.{List}
 use Prim.Native.Nat.{ℕ, zero, suc, _+_, _-_, _*_, _^_, _≤_, _<_}
 use native.Mathlib.Omega.{arith}
 use native.Mathlib.Nat.{pow-le-pow-right}
-use lib.ListN.{length, getD, set, replicate, length-set, getD-replicate}
+use lib.ListN.{length, getD, set, length-set}
 use lib.Seq.{getD-set-same, getD-set-other}
 use Rattle.theory.specs.Automaton.{returning}
 use Rattle.theory.proofs.Base.{less, equal, more, cmp}
 use Rattle.theory.proofs.Order.{same-refl}
 use Rattle.theory.proofs.Letters.{marks-getD}
 use Rattle.theory.proofs.Paths.{home-away, home-step, home-small}
-use Rattle.paths.specs.Tables.{Counted, Filled}
+use Rattle.paths.specs.Tables.{Counted, Started, Filled}
 
 -- all lengths below l are right, and of length l the states below q
 pub record Reached (k : ℕ) (w t : List ℕ) (l q : ℕ) : Type 0 where
@@ -44,30 +44,58 @@ pub record Next (k : ℕ) (w t : List ℕ) (n l home s : ℕ) : Type 0 where
 pub returning-fits : {k : ℕ} {w : List ℕ} → Counted k w → (s l : ℕ) → l ≤ length w → returning k w s l ≤ 2 ^ 60
 returning-fits {k} {w} c s l h = omega (arith, home-small k w s l, pow-le-pow-right {n = k} (omega arith) h, c .range)
 
--- the empty table
-abbrev pub zeros : List ℕ
-zeros = replicate 3721 0
+-- the first row, before state s: the states below s are right
+pub record Starting (t : List ℕ) (n s : ℕ) : Type 0 where
+  pub size : length t ≡ 3721
+  pub from : 1 ≤ s
+  pub upto : s ≤ n + 1
+  pub home : getD t 0 0 ≡ 1
+  pub away : (q : ℕ) → 1 ≤ q → q < s → getD t q 0 ≡ 0
+
+pub start-home : (t : List ℕ) (n : ℕ) → length t ≡ 3721 → Starting (set t 0 1) n 1
+start-home t n e =
+    record {
+      size = length-set t 0 1 ∙ e;
+      from = omega arith;
+      upto = omega arith;
+      home = getD-set-same t 0 1 0 (omega arith);
+      away = λ q g l. absurd (omega arith);
+    }
+
+pub start-next : (t : List ℕ) (n s : ℕ) → Starting t n s → s ≤ n → n ≤ 60 → Starting (set t s 0) n (s + 1)
+start-next t n s r h m =
+    record {
+      size = length-set t s 0 ∙ r .size;
+      from = omega arith;
+      upto = omega arith;
+      home = getD-set-other t s 0 0 0 (λ e. omega (arith, r .from)) ∙ r .home;
+      away = λ q g l. elim (cmp q s) [
+        | less f ↦ getD-set-other t s q 0 0 (λ e. omega arith) ∙ r .away q g f
+        | equal f ↦ rw f (getD-set-same t s 0 0 (omega (arith, r .size)))
+        | more f ↦ absurd (omega arith)
+      ];
+    }
+
+pub start-end : (t : List ℕ) (n s : ℕ) → Starting t n s → n < s → Started n t
+start-end t n s r h = record { size = r .size; home = r .home; away = λ q g l. r .away q g (omega arith) }
 
 module _ (k : ℕ) (w : List ℕ) (c : Counted k w) where
   -- length 0: one word, the empty one, and it leads only state 0 home
-  pub started : Lengths k w (set zeros 0 1) (length w) 1
-  started =
+  pub started : (t : List ℕ) → Started (length w) t → Lengths k w t (length w) 1
+  started t r =
       record {
         is = refl;
         from = omega arith;
         upto = omega arith;
-        reached = record { size = length-set zeros 0 1; done = go; row = λ s h l. absurd (omega arith) };
+        reached = record { size = r .size; done = go; row = λ s h l. absurd (omega arith) };
       }
     where
-      at-zero : (s : ℕ) → s ≤ length w → getD (set zeros 0 1) s 0 ≡ returning k w s 0
-      at-zero zero h = sym (rw (same-refl w))
-      at-zero (suc s) h =
-          getD-set-other zeros 0 (suc s) 1 0 (λ e. omega arith)
-          ∙ getD-replicate 3721 (suc s) 0 0 (omega (arith, c .short))
-          ∙ sym (home-away k w (suc s) (omega arith) h)
+      at-zero : (s : ℕ) → s ≤ length w → getD t s 0 ≡ returning k w s 0
+      at-zero zero h = r .home ∙ sym (rw (same-refl w))
+      at-zero (suc s) h = r .away (suc s) (omega arith) h ∙ sym (home-away k w (suc s) (omega arith) h)
 
-      go : (s i : ℕ) → s + i ≤ length w → i < 1 → getD (set zeros 0 1) (i * 61 + s) 0 ≡ returning k w s i
-      go s zero h l = let e : 0 * 61 + s ≡ s = omega arith in ap (λ j. getD (set zeros 0 1) j 0) e ∙ at-zero s (omega arith)
+      go : (s i : ℕ) → s + i ≤ length w → i < 1 → getD t (i * 61 + s) 0 ≡ returning k w s i
+      go s zero h l = let e : 0 * 61 + s ≡ s = omega arith in ap (λ j. getD t j 0) e ∙ at-zero s (omega arith)
       go s (suc i) h l = absurd (omega arith)
 
   module _ (t : List ℕ) (n l : ℕ) (r : Lengths k w t n l) where

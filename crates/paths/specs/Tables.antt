@@ -18,6 +18,12 @@ pub record Counted (k : ℕ) (w : List ℕ) : Type 0 where
   pub short : length w ≤ 60
   pub range : k ^ length w ≤ 2 ^ 60
 
+-- the first row, length 0: of the states up to n only state 0 is home
+pub record Started (n : ℕ) (t : List ℕ) : Type 0 where
+  pub size : length t ≡ 3721
+  pub home : getD t 0 0 ≡ 1
+  pub away : (s : ℕ) → 1 ≤ s → s ≤ n → getD t s 0 ≡ 0
+
 -- the entry of length l and state s is the number of words of length l that lead from state s home
 pub record Filled (k : ℕ) (w t : List ℕ) : Type 0 where
   pub size : length t ≡ 3721

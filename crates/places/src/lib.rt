@@ -88,7 +88,8 @@ pub fn place_of(s: Strip, w: &[u8]) -> u64
     let mut room = [0u8; 60];
     let v = &mut room[..n];
     base(k, w, turn, lead, v);
-    let end = paths::whole(k, v, s.size);
+    let mut t = [0u64; 3721];
+    let end = paths::whole(k, v, s.size, &mut t);
     let long = words::tests::shortest_root(v);
     let mut letters = [0u8; 120];
     let text = &mut letters[..long + n];

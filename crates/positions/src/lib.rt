@@ -22,7 +22,8 @@ pub fn holder(s: Strip, p: u64, v: &mut [u8]) -> Spot
     ensures { λ r. ⌜ HoldsAt s p (now (v .exit)) r ⌝ }
 {
     ranks::find(s, Goal::Position(p), v);
-    let end = paths::whole(s.k, v, s.size);
+    let mut t = [0u64; 3721];
+    let end = paths::whole(s.k, v, s.size, &mut t);
     let long = words::tests::shortest_root(v);
     let at = p + long as u64 - end;
     Spot {
@@ -60,6 +61,7 @@ pub fn position(s: Strip, v: &mut [u8], long: usize, at: usize) -> u64
     ensures { λ r. ⌜ r ≡ placeIn (cursor (s .k) (s .n) (take long (now (v .entry))) at) ⌝ }
 {
     words::steps::extend(v, long);
-    let end = paths::whole(s.k, v, s.size);
+    let mut t = [0u64; 3721];
+    let end = paths::whole(s.k, v, s.size, &mut t);
     end - long as u64 + at as u64
 }

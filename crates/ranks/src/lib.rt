@@ -14,14 +14,14 @@ pub enum Goal {
     Position(u64),
 }
 
-// The rank of a prenecklace: document 004's sum, by one table.
-pub fn of_prenecklace(s: Strip, w: &[u8]) -> u64
-    requires { ⌜ WordOn s (now w) × Prenecklace (now w) ⌝ }
+// The rank of a prenecklace: document 004's sum, by one table, which is lent.
+pub fn of_prenecklace(s: Strip, w: &[u8], t: &mut [u64]) -> u64
+    requires { ⌜ WordOn s (now w) × Prenecklace (now w) × (length (now t) ≡ 3721) ⌝ }
     ensures { λ r. ⌜ r ≡ rank (s .k) (now (w .entry)) ⌝ }
 {
     let k = s.k;
     let n = s.n;
-    let sizes = paths::sizes(k, w);
+    let sizes = paths::sizes(k, w, t);
     let sum = sums::divisor_sum(k, n, &sizes);
     (sum as u64) / n
 }
@@ -37,7 +37,8 @@ pub fn of_word(s: Strip, w: &[u8]) -> u64
     let v = &mut room[..n];
     buffers::copy(w, v);
     words::floors::floor(k, v);
-    of_prenecklace(s, v)
+    let mut t = [0u64; 3721];
+    of_prenecklace(s, v, &mut t)
 }
 
 // The number of Lyndon words of length n.
@@ -53,21 +54,21 @@ pub fn count(s: Strip) -> u64
 }
 
 // Is w at or past the word searched for? One table.
-fn reaches(s: Strip, goal: Goal, w: &[u8]) -> bool
-    requires { ⌜ WordOn s (now w) × Prenecklace (now w) × Within s goal ⌝ }
+fn reaches(s: Strip, goal: Goal, w: &[u8], t: &mut [u64]) -> bool
+    requires { ⌜ WordOn s (now w) × Prenecklace (now w) × Within s goal × (length (now t) ≡ 3721) ⌝ }
     ensures { λ r. ⌜ r ≡ upTo (goalWord (s .k) (s .n) goal) (now (w .entry)) ⌝ }
 {
     let k = s.k;
     let size = s.size;
     match goal {
-        Goal::Index(i) => i <= of_prenecklace(s, w),
-        Goal::Position(p) => p < paths::whole(k, w, size),
+        Goal::Index(i) => i <= of_prenecklace(s, w, t),
+        Goal::Position(p) => p < paths::whole(k, w, size, t),
     }
 }
 
 // The letter of the word searched for at j, by bisection from the smallest that keeps a prenecklace; it is put in its place.
-fn letter(s: Strip, goal: Goal, w: &mut [u8], j: usize, from: u8) -> u8
-    requires { ⌜ Searching s goal (now w) j from ⌝ }
+fn letter(s: Strip, goal: Goal, w: &mut [u8], j: usize, from: u8, t: &mut [u64]) -> u8
+    requires { ⌜ Searching s goal (now w) j from × (length (now t) ≡ 3721) ⌝ }
     ensures { λ r. ⌜ Found s goal (now (w .entry)) (now (w .exit)) j r ⌝ }
 {
     let mut low = from;
@@ -75,7 +76,7 @@ fn letter(s: Strip, goal: Goal, w: &mut [u8], j: usize, from: u8) -> u8
     while low < high {
         let mid = low + (high - low) / 2;
         w[j] = mid;
-        if reaches(s, goal, w) {
+        if reaches(s, goal, w, t) {
             high = mid;
         } else {
             low = mid + 1;
@@ -121,17 +122,18 @@ fn period_with(period: usize, j: usize, from: u8, c: u8) -> usize
     period
 }
 
-// The word searched for, letter by letter, over a buffer of n bytes.
+// The word searched for, letter by letter, over a buffer of n bytes; one table for all letters tried.
 pub fn find(s: Strip, goal: Goal, out: &mut [u8])
     requires { ⌜ Shaped s × Within s goal × (length (now out) ≡ s .n) ⌝ }
     ensures { λ _. ⌜ now (out .exit) ≡ goalWord (s .k) (s .n) goal ⌝ }
 {
     fill(out, (s.k - 1) as u8);
+    let mut t = [0u64; 3721];
     let mut period = 0;
     let mut j = 0;
     while j < out.len() {
         let from = back(out, j, period);
-        let c = letter(s, goal, out, j, from);
+        let c = letter(s, goal, out, j, from, &mut t);
         period = period_with(period, j, from, c);
         j += 1;
     }

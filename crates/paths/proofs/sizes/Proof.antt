@@ -17,20 +17,22 @@ abbrev μ-loop : tie.MeasureT-loop
 μ-loop k w t n out₀ top₀ d₀ out top d = n + 1 - d
 
 fill-requires : tie.Need-fill-requires Inv-loop μ-loop
-fill-requires c κs = c .before .pre .0
+fill-requires c κs = let a = c .before .before .before in (a .pre .0, a .pre .2)
 
 loop-holds : tie.Need-loop-holds Inv-loop μ-loop
-loop-holds c = begun (c .before .before .args .k) (c .before .before .args .w .now) (c .before .before .pre .0)
+loop-holds c = let a = c .before .before .before .before .before .before in begun (a .args .k) (a .args .w .now) (a .pre .0)
 
 -- the size at d, whether or not it is asked for
 size : (c : tie.In-loop Inv-loop μ-loop)
-    → let a = c .before .before .before .before in
+    → let a = c .before .before .before .before .before .before .before .before in
+    let f = c .before .before .before .before .fill in
     let i = c .before .loop in
-    Size (a .args .k) (a .args .w .now) (c .before .before .fill .result) (i .d) (i .top * a .args .k)
+    Size (a .args .k) (a .args .w .now) (f .last .1 .1 .0) (i .d) (i .top * a .args .k)
 size c =
-    let a = c .before .before .before .before in
+    let a = c .before .before .before .before .before .before .before .before in
+    let f = c .before .before .before .before .fill in
     let i = c .before .loop in
-    size-left (a .args .k) (a .args .w .now) (c .before .before .fill .result) (a .pre .0) (a .pre .1) (c .before .before .fill .ensures)
+    size-left (a .args .k) (a .args .w .now) (f .last .1 .1 .0) (a .pre .0) (a .pre .1) (f .ensures)
     (i .d) (i .top * a .args .k) (i .inv .from) (omega arith)
     (raised (a .args .k) (a .args .w .now) (a .pre .0) (length (a .args .w .now)) (i .out) (i .top) (i .d) (i .inv) (omega arith))
 
@@ -40,11 +42,8 @@ mul-top c = omega (arith, size c)
 rem-if1 : tie.Need-rem-if1 Inv-loop μ-loop
 rem-if1 c = omega arith
 
-slice-aggregate-diagonal : tie.Need-slice-aggregate-diagonal Inv-loop μ-loop
-slice-aggregate-diagonal c = search needs
-
 diagonal-requires : tie.Need-diagonal-requires Inv-loop μ-loop
-diagonal-requires c κs = omega (arith, size (c .before .before), c .before .before .before .before .fill .ensures .size)
+diagonal-requires c κs = omega (arith, size (c .before .before), c .before .before .before .before .before .before .fill .ensures .size)
 
 sub-out : tie.Need-sub-out Inv-loop μ-loop
 sub-out c = omega (arith, size (c .before .before .before), c .diagonal .ensures)
@@ -63,20 +62,23 @@ loop-less c = omega arith
 
 loop-again : tie.Need-loop-again Inv-loop μ-loop
 loop-again c =
-    let a = c .before .before .before .before .before in
+    let a = c .before .before .before .before .before .before .before .before .before in
     let i = c .before .before .loop in
     let k = a .args .k in
     let w = a .args .w .now in
     ⊎-elim
     (λ x. subst (λ out. Stored k w (length w) out (i .top * k) (i .d + 1)) (sym (x .3))
-    (stored k w (a .pre .0) (length w) (i .out) (i .top) (i .d) (i .inv) (omega arith) (c .before .before .before .fill .result) (x .2 .result) (size (c .before)) (x .2 .ensures)))
+    (stored k w (a .pre .0) (length w) (i .out) (i .top) (i .d) (i .inv) (omega arith) (c .before .before .before .before .before .fill .last .1 .1 .0) (x .2 .result) (size (c .before)) (x .2 .ensures)))
     (λ x. subst (λ out. Stored k w (length w) out (i .top * k) (i .d + 1)) (sym (x .1))
     (skipped k w (a .pre .0) (length w) (i .out) (i .top) (i .d) (i .inv) (omega arith) (x .0 .left)))
     (c .if1 .came)
 
+same-length : tie.Need-same-length Inv-loop μ-loop
+same-length c = search needs
+
 returns : tie.Need-returns Inv-loop μ-loop
 returns c =
-    let a = c .before .before .before .before in
+    let a = c .before .before .before .before .before .before .before .before in
     ended (a .args .k) (a .args .w .now) (a .pre .0) (length (a .args .w .now)) (c .before .loop .out) _ _ (c .before .loop .inv) (omega arith)
 
 pub sizes-spec : {M : Type 1} → statement M
@@ -89,7 +91,6 @@ sizes-spec =
     loop-holds
     mul-top
     rem-if1
-    slice-aggregate-diagonal
     diagonal-requires
     sub-out
     mul-out
@@ -97,4 +98,5 @@ sizes-spec =
     add-d
     loop-less
     loop-again
+    same-length
     returns)

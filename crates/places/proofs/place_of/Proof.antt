@@ -1,5 +1,5 @@
 -- `places::place_of` meets its contract: at the wrap, or where the letters from the word that the window begins in first fit it.
-use mathlib.Core.Path.{_≡_, sym, _∙_}
+use mathlib.Core.Path.{_≡_, refl, sym, _∙_}
 use Prim.Native.Nat.{_+_, _-_}
 use native.Mathlib.Omega.{arith}
 use lib.ListN.{length, replicate}
@@ -80,48 +80,52 @@ located-at c =
     let s = p .before .before .before .before in
     turn-located (s .pre) (p .before .before .count-leading .ensures) (p .count-leading2 .ensures) (e .if1 .left) (c .before .before .before .least-turn .ensures) (c .base .ensures)
 
+slice-aggregate-whole : tie.Need-slice-aggregate-whole
+slice-aggregate-whole c = search needs
+
 whole-requires : tie.Need-whole-requires
 whole-requires c κs =
-    let a = c .before .before .before in
-    base-counted (a .before .before .before .before .before .before .before .before .before .pre) (located-at a)
+    let a = c .before .before .before .before in
+    let (counted, pre, top) = base-counted (a .before .before .before .before .before .before .before .before .before .pre) (located-at a) in
+    (counted, pre, top, refl)
 
 shortest-root-requires : tie.Need-shortest-root-requires
 shortest-root-requires c κs = search needs
 
 add-letters : tie.Need-add-letters
 add-letters c =
-    let a = c .before .before .before .before .before .before in
+    let a = c .before .before .before .before .before .before .before .before in
     omega (arith, letters-short (a .before .before .before .before .before .before .before .before .before .pre) (located-at a) (c .shortest-root .ensures))
 
 array-borrow-prefix-letters : tie.Need-array-borrow-prefix-letters
 array-borrow-prefix-letters c =
-    let a = c .before .before .before .before .before .before in
+    let a = c .before .before .before .before .before .before .before .before in
     letters-short (a .before .before .before .before .before .before .before .before .before .pre) (located-at a) (c .shortest-root .ensures)
 
 slice-aggregate-text : tie.Need-slice-aggregate-text
 slice-aggregate-text c =
     let r = c .before in
-    let a = r .before .before .before .before .before .before in
+    let a = r .before .before .before .before .before .before .before .before in
     let s = a .before .before .before .before .before .before .before .before .before in
     sym (length-take-le (r .shortest-root .result + length (s .args .w .now)) (replicate 120 0) (letters-short (s .pre) (located-at a) (r .shortest-root .ensures)))
 
 write-from-requires : tie.Need-write-from-requires
 write-from-requires c κs =
     let r = c .before .before in
-    let a = r .before .before .before .before .before .before in
+    let a = r .before .before .before .before .before .before .before .before in
     word-held (a .before .before .before .before .before .before .before .before .before .pre) (located-at a) (r .shortest-root .ensures)
 
 sub-result : tie.Need-sub-result
 sub-result c =
     let r = c .before .before .before .before .before .before in
-    let a = r .before .before .before .before .before .before in
-    word-inside (a .before .before .before .before .before .before .before .before .before .pre) (located-at a) (r .shortest-root .ensures) (r .before .before .whole .ensures)
+    let a = r .before .before .before .before .before .before .before .before in
+    word-inside (a .before .before .before .before .before .before .before .before .before .pre) (located-at a) (r .shortest-root .ensures) (r .before .before .before .whole .ensures)
 
 first-fit-requires : tie.Need-first-fit-requires
 first-fit-requires c κs =
     let f = c .before .before .before .before in
     let r = f .before .before .before in
-    let a = r .before .before .before .before .before .before in
+    let a = r .before .before .before .before .before .before .before .before in
     let s = a .before .before .before .before .before .before .before .before .before in
     text-room (s .pre) (located-at a) (r .shortest-root .ensures) (f .write-from .ensures)
     (length-take-le (r .shortest-root .result + length (s .args .w .now)) (replicate 120 0) (letters-short (s .pre) (located-at a) (r .shortest-root .ensures)))
@@ -129,21 +133,21 @@ first-fit-requires c κs =
 -- at the end: the sum is the place
 sum-place : (c : tie.After-text3) →
     let r = c .before .before .before .before .before .before .before .before .before in
-    let s = r .before .before .before .before .before .before .before .before .before .before .before .before .before .before .before in
-    r .before .before .whole .result - r .shortest-root .result + c .before .first-fit .result ≡ placeOf (s .args .s .k) (s .args .s .n) (s .args .w .now)
+    let s = r .before .before .before .before .before .before .before .before .before .before .before .before .before .before .before .before .before in
+    r .before .before .before .whole .result - r .shortest-root .result + c .before .first-fit .result ≡ placeOf (s .args .s .k) (s .args .s .n) (s .args .w .now)
 sum-place c =
     let f = c .before .before .before .before .before .before in
     let r = f .before .before .before in
-    let a = r .before .before .before .before .before .before in
+    let a = r .before .before .before .before .before .before .before .before in
     let s = a .before .before .before .before .before .before .before .before .before in
     text-place (s .pre) (located-at a) (r .shortest-root .ensures) (f .write-from .ensures)
     (length-take-le (r .shortest-root .result + length (s .args .w .now)) (replicate 120 0) (letters-short (s .pre) (located-at a) (r .shortest-root .ensures)))
-    (r .before .before .whole .ensures) (c .before .first-fit .ensures)
+    (r .before .before .before .whole .ensures) (c .before .first-fit .ensures)
 
 add-result : tie.Need-add-result
 add-result c =
     let r = c .before .before .before .before .before .before .before .before .before in
-    omega (arith, sum-place c, place-small (r .before .before .before .before .before .before .before .before .before .before .before .before .before .before .before .pre))
+    omega (arith, sum-place c, place-small (r .before .before .before .before .before .before .before .before .before .before .before .before .before .before .before .before .before .pre))
 
 returns-2 : tie.Need-returns-2
 returns-2 c = sum-place c
@@ -166,6 +170,7 @@ place-of-spec =
     array-borrow-prefix-room
     slice-aggregate-v
     base-requires
+    slice-aggregate-whole
     whole-requires
     shortest-root-requires
     add-letters

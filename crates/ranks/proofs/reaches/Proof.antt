@@ -19,19 +19,25 @@ enum-known-goal-2 c = search needs
 
 whole-requires : tie.Need-whole-requires
 whole-requires c κs =
-    let (on, pre, _) = c .before .before .before .before .pre in
-    let k = c .before .before .before .before .args .s .k in
-    (counted on, pre, on .shaped .size ∙ ap (λ m. k ^ m) (sym (on .long)))
+    let f = c .before .before .before .before .before .before in
+    let (on, pre, _, long) = f .pre in
+    (counted on, pre, on .shaped .size ∙ ap (λ m. f .args .s .k ^ m) (sym (on .long)), long)
+
+same-length : tie.Need-same-length
+same-length c = search needs
 
 returns : tie.Need-returns
 returns c =
-    let (on, _, inside) = c .before .before .before .before .before .pre in
-    index-told (c .before .before .goal .given .1) on inside (c .of-prenecklace .ensures)
+    let (on, _, inside, _) = c .before .before .before .before .before .before .before .before .before .pre in
+    index-told (c .before .before .before .before .before .goal .given .1) on inside (c .before .before .of-prenecklace .ensures)
+
+same-length-2 : tie.Need-same-length-2
+same-length-2 c = search needs
 
 returns-2 : tie.Need-returns-2
 returns-2 c =
-    let (on, _, inside) = c .before .before .before .before .before .pre in
-    position-told (c .before .before .goal2 .given .1) on inside (c .whole .ensures)
+    let (on, _, inside, _) = c .before .before .before .before .before .before .before .before .before .pre in
+    position-told (c .before .before .before .before .before .goal2 .given .1) on inside (c .before .before .whole .ensures)
 
 pub reaches-spec : {M : Type 1} → statement M
-reaches-spec = tie.close (tie.spec enum-known-goal of-prenecklace-requires enum-known-goal-2 whole-requires returns returns-2)
+reaches-spec = tie.close (tie.spec enum-known-goal of-prenecklace-requires enum-known-goal-2 whole-requires same-length returns same-length-2 returns-2)
