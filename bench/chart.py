@@ -14,6 +14,10 @@ Before it is measured, all answers are compared. Ratios only; on a busy machine 
   For a cursor's step (`bench/strides.c`, called from no C): the same tests and steps, a million on each strip.
 - **memcpy**: copying as many bytes as were printed.
 
+Why the library is slower than the best C: ranks and places fill a table of 61 times 61 numbers, cleared at each call, where `best.c` needs a row of 60; words and
+marks bisect each letter with a table for each try, where `best.c` divides past the middle of the word; a lookup reads the plan's numbers byte by byte, twice, where
+`best.c` reads eight bytes at once; marks are printed a byte at a time.
+
 """
 
 
