@@ -7,12 +7,8 @@ use Rattle.texts.specs.Listings.{refusedText}
 use Rattle.listing.proofs.Building.{Written, nothing, more, more-number, number-room, line-is}
 use Rattle.listing.proofs.refused_line.Statement.{statement}
 use Rattle.listing.proofs.refused_line.Tie as tie
-use Rattle.listing.proofs.refused_line.Reads as reads
-use Rattle.listing.proofs.refused_line.Lts as lts
-use Rattle.texts.proofs.put_bytes.Reads as put-bytes-reads
-use Rattle.texts.proofs.put_number.Reads as put-number-reads
 
-word : (c : lts.After-put-bytes (put-bytes-reads.Asked, put-bytes-reads.Learnt, put-number-reads.Asked, put-number-reads.Learnt) reads.Pre reads.Post)
+word : (c : tie.After-put-bytes)
     → Written 8 (refusedText ++ (32 ∷ [])) (c .put-bytes .last .1 .0) (c .put-bytes .result)
 word c = more (refusedText ++ (32 ∷ [])) 8 (nothing _ refl) (c .put-bytes .ensures) (c .put-bytes .kept .1 .0) (omega arith)
 

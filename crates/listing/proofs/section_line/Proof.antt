@@ -14,39 +14,15 @@ use Rattle.listing.proofs.Sections.{window-short, digits-short, window-
 use Rattle.listing.proofs.Building.{Written, nothing, more, more-number, number-room, room, line-is}
 use Rattle.listing.proofs.section_line.Statement.{statement}
 use Rattle.listing.proofs.section_line.Tie as tie
-use Rattle.listing.proofs.section_line.Reads as reads
-use Rattle.listing.proofs.section_line.Lts as lts
-use Rattle.positions.proofs.letters.Reads as letters-reads
-use Rattle.texts.proofs.put_bytes.Reads as put-bytes-reads
-use Rattle.texts.proofs.put_letters.Reads as put-letters-reads
-use Rattle.texts.proofs.put_number.Reads as put-number-reads
 
 -- what is written: the number, then the offset, the length, the window's digits
-number : (c : lts.After-put-number (
-  put-number-reads.Asked,
-  put-number-reads.Learnt,
-  letters-reads.Asked,
-  letters-reads.Learnt,
-  put-letters-reads.Asked,
-  put-letters-reads.Learnt,
-  put-bytes-reads.Asked,
-  put-bytes-reads.Learnt,
-) reads.Pre reads.Post)
+number : (c : tie.After-put-number)
     → Written 21 (decimal (c .before .before .args .i) ++ (32 ∷ [])) (c .put-number .last .1 .1 .0) (c .put-number .result)
 number c =
     let f = c .before .before in
     more-number (f .args .i) 32 (omega (arith, f .fits .i)) (nothing _ refl) (c .put-number .ensures) (c .put-number .kept .1 .1 .0)
 
-offset : (c : lts.After-put-number2 (
-  put-number-reads.Asked,
-  put-number-reads.Learnt,
-  letters-reads.Asked,
-  letters-reads.Learnt,
-  put-letters-reads.Asked,
-  put-letters-reads.Learnt,
-  put-bytes-reads.Asked,
-  put-bytes-reads.Learnt,
-) reads.Pre reads.Post)
+offset : (c : tie.After-put-number2)
     → let f = c .before .before .before .before .before in
     Written 42 ((decimal (f .args .i) ++ (32 ∷ [])) ++ (decimal (f .args .section .offset) ++ (32 ∷ []))) (c .put-number2 .last .1 .1 .0) (c .put-number2 .result)
 offset c =
@@ -54,16 +30,7 @@ offset c =
     let fit : Fits w64 (f .args .section .offset) = search needs in
     more-number (f .args .section .offset) 32 (omega arith) (number (c .before .before .before)) (c .put-number2 .ensures) (c .put-number2 .kept .1 .1 .0)
 
-numbers : (c : lts.After-put-number3 (
-  put-number-reads.Asked,
-  put-number-reads.Learnt,
-  letters-reads.Asked,
-  letters-reads.Learnt,
-  put-letters-reads.Asked,
-  put-letters-reads.Learnt,
-  put-bytes-reads.Asked,
-  put-bytes-reads.Learnt,
-) reads.Pre reads.Post)
+numbers : (c : tie.After-put-number3)
     → let f = c .before .before .before .before .before .before .before .before in
     Written 63 (((decimal (f .args .i) ++ (32 ∷ [])) ++ (decimal (f .args .section .offset) ++ (32 ∷ []))) ++ (decimal (f .args .section .long) ++ (32 ∷ []))) (c .put-number3 .last .1 .1 .0) (c .put-number3 .result)
 numbers c =
@@ -71,16 +38,7 @@ numbers c =
     let fit : Fits w64 (f .args .section .long) = search needs in
     more-number (f .args .section .long) 32 (omega arith) (offset (c .before .before .before)) (c .put-number3 .ensures) (c .put-number3 .kept .1 .1 .0)
 
-digits : (c : lts.After-put-letters (
-  put-number-reads.Asked,
-  put-number-reads.Learnt,
-  letters-reads.Asked,
-  letters-reads.Learnt,
-  put-letters-reads.Asked,
-  put-letters-reads.Learnt,
-  put-bytes-reads.Asked,
-  put-bytes-reads.Learnt,
-) reads.Pre reads.Post)
+digits : (c : tie.After-put-letters)
     → let f = c .before .before .before .before .before .before .before .before .before .before .before .before .before .before .before .before .before in
     Written 123 ((((decimal (f .args .i) ++ (32 ∷ [])) ++ (decimal (f .args .section .offset) ++ (32 ∷ []))) ++ (decimal (f .args .section .long) ++ (32 ∷ []))) ++ glyphs (c .before .before .before .before .before .letters .last .1 .1 .0)) (c .put-letters .last .1 .0) (c .put-letters .result)
 digits c =

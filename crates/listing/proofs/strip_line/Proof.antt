@@ -8,24 +8,20 @@ use Rattle.texts.specs.Listings.{stripText}
 use Rattle.listing.proofs.Building.{Written, nothing, more, more-number, number-room, line-is, strip-text, strip-fits}
 use Rattle.listing.proofs.strip_line.Statement.{statement}
 use Rattle.listing.proofs.strip_line.Tie as tie
-use Rattle.listing.proofs.strip_line.Reads as reads
-use Rattle.listing.proofs.strip_line.Lts as lts
-use Rattle.texts.proofs.put_bytes.Reads as put-bytes-reads
-use Rattle.texts.proofs.put_number.Reads as put-number-reads
 
 -- what is written: the word, then k, then n
-word : (c : lts.After-put-bytes (put-bytes-reads.Asked, put-bytes-reads.Learnt, put-number-reads.Asked, put-number-reads.Learnt) reads.Pre reads.Post)
+word : (c : tie.After-put-bytes)
     → Written 6 (stripText ++ (32 ∷ [])) (c .put-bytes .last .1 .0) (c .put-bytes .result)
 word c = more (stripText ++ (32 ∷ [])) 6 (nothing _ refl) (c .put-bytes .ensures) (c .put-bytes .kept .1 .0) (omega arith)
 
-shades : (c : lts.After-put-number (put-bytes-reads.Asked, put-bytes-reads.Learnt, put-number-reads.Asked, put-number-reads.Learnt) reads.Pre reads.Post)
+shades : (c : tie.After-put-number)
     → let k = c .before .before .before .before .before .before .args .s .k in
     Written 27 ((stripText ++ (32 ∷ [])) ++ (decimal k ++ (32 ∷ []))) (c .put-number .last .1 .1 .0) (c .put-number .result)
 shades c =
     let f = c .before .before .before .before .before .before in
     more-number (f .args .s .k) 32 (strip-fits (f .pre) .0) (word (c .before .before .before)) (c .put-number .ensures) (c .put-number .kept .1 .1 .0)
 
-marks : (c : lts.After-put-number2 (put-bytes-reads.Asked, put-bytes-reads.Learnt, put-number-reads.Asked, put-number-reads.Learnt) reads.Pre reads.Post)
+marks : (c : tie.After-put-number2)
     → let s = c .before .before .before .before .before .before .before .before .before .args .s in
     Written 48 (((stripText ++ (32 ∷ [])) ++ (decimal (s .k) ++ (32 ∷ []))) ++ (decimal (s .n) ++ (32 ∷ []))) (c .put-number2 .last .1 .1 .0) (c .put-number2 .result)
 marks c =

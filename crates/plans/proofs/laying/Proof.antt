@@ -10,9 +10,6 @@ use Rattle.plans.proofs.Tests.{Whole, accepted-whole}
 use Rattle.plans.proofs.Places.{Pair, none-left, ends-fit, held, behind, past}
 use Rattle.plans.proofs.laying.Statement.{statement}
 use Rattle.plans.proofs.laying.Tie as tie
-use Rattle.plans.proofs.laying.Reads as reads
-use Rattle.plans.proofs.laying.Lts as lts
-use Rattle.plans.proofs.number.Reads as number-reads
 
 abbrev Inv-loop : tie.InvT-loop
 Inv-loop plan place last i₀ at₀ i at =
@@ -72,7 +69,7 @@ add-looked : tie.Need-add-looked Inv-loop μ-loop
 add-looked c = omega arith
 
 -- both numbers of section i were read
-pair : (c : lts.After-number2 (number-reads.Asked, number-reads.Learnt) reads.Pre reads.Post Inv-loop μ-loop)
+pair : (c : tie.After-number2 Inv-loop μ-loop)
     → let at = c .before .before .before .before .before in Pair (at .before .before .before .args .plan .now) (at .loop .looked) (at .loop .at) (c .before .before .number .result) (c .number2 .result)
 pair c =
     let at = c .before .before .before .before .before in

@@ -9,11 +9,6 @@ use Rattle.theory.specs.Plans.{torn}
 use Rattle.plans.proofs.Tests.{whole, opened-torn, opened-none, straight-sections, opened-strip, opened-crooked}
 use Rattle.plans.proofs.open.Statement.{statement}
 use Rattle.plans.proofs.open.Tie as tie
-use Rattle.plans.proofs.open.Reads as reads
-use Rattle.plans.proofs.open.Lts as lts
-use Rattle.plans.proofs.is_straight.Reads as is-straight-reads
-use Rattle.plans.proofs.is_torn.Reads as is-torn-reads
-use Rattle.shape.proofs.Strip.new.Reads as new-reads
 
 is-torn-requires : tie.Need-is-torn-requires
 is-torn-requires c κs = search needs
@@ -24,7 +19,7 @@ returns c = opened-torn (c .before .before .before .args .plan .now) (sym (c .be
 -- past the first test the plan is not torn
 abbrev Past : Type 0
 Past =
-    lts.Else1 (is-torn-reads.Asked, is-torn-reads.Learnt, new-reads.Asked, new-reads.Learnt, is-straight-reads.Asked, is-straight-reads.Learnt) reads.Pre reads.Post
+    tie.Else1
 
 sound : (c : Past) → torn (c .before .before .before .args .plan .now) ≡ false
 sound c = sym (c .before .is-torn .ensures) ∙ c .if1 .left

@@ -6,20 +6,11 @@ use native.Mathlib.Omega.{arith}
 use borrow.Author.Needs.{needs}
 use Rattle.theory.specs.Plans.{layingOf, distanceOf}
 use Rattle.buffers.specs.Buffers.{putBe, over}
-use Rattle.places.proofs.place_of.Reads as place-of-reads
-use Rattle.plans.proofs.laying.Reads as laying-reads
-use Rattle.plans.proofs.open.Reads as open-reads
-use Rattle.plans.proofs.section_at.Reads as section-at-reads
 use Rattle.plans.proofs.Opening.{Accepted, accepted}
 use Rattle.strip.proofs.Answers.{into-refused, into-small, into-answer}
 use Rattle.strip.proofs.Laying.{Looked, refused-plan, plan-fault, word-faulty, word-on-strip, place-small, nowhere, laid-fine, section-inside, section-number, starts-before, distance-is}
-use Rattle.strip.proofs.lookups.check_plan.Reads as check-plan-reads
-use Rattle.strip.proofs.lookups.put_answer.Reads as put-answer-reads
-use Rattle.strip.proofs.word_fault.Reads as word-fault-reads
 use Rattle.strip.proofs.lookups.look_up.Statement.{statement}
 use Rattle.strip.proofs.lookups.look_up.Tie as tie
-use Rattle.strip.proofs.lookups.look_up.Reads as reads
-use Rattle.strip.proofs.lookups.look_up.Lts as lts
 
 -- what is written for a plan and a window
 abbrev answer : List ℕ → List ℕ → List ℕ
@@ -27,7 +18,7 @@ answer s w = putBe 2 (layingOf s w - 1) ++ putBe 8 (distanceOf s w)
 
 -- past the plan's test the plan is accepted; past the search the window's place is looked up in it
 abbrev Opened : Type 0
-Opened = lts.After-open (open-reads.Asked, open-reads.Learnt, check-plan-reads.Asked, check-plan-reads.Learnt, word-fault-reads.Asked, word-fault-reads.Learnt, place-of-reads.Asked, place-of-reads.Learnt, laying-reads.Asked, laying-reads.Learnt, section-at-reads.Asked, section-at-reads.Learnt, put-answer-reads.Asked, put-answer-reads.Learnt) reads.Pre reads.Post
+Opened = tie.After-open
 
 abbrev the-plan : Opened → List ℕ
 the-plan o = o .before .before .before .before .args .plan .now
@@ -39,13 +30,13 @@ abbrev the-tray : Opened → List ℕ
 the-tray o = o .before .before .before .before .args .tray .now
 
 abbrev Known : Type 0
-Known = lts.After-known-told (open-reads.Asked, open-reads.Learnt, check-plan-reads.Asked, check-plan-reads.Learnt, word-fault-reads.Asked, word-fault-reads.Learnt, place-of-reads.Asked, place-of-reads.Learnt, laying-reads.Asked, laying-reads.Learnt, section-at-reads.Asked, section-at-reads.Learnt, put-answer-reads.Asked, put-answer-reads.Learnt) reads.Pre reads.Post
+Known = tie.After-known-told
 
 plan : (c : Known) → Accepted (the-plan (c .before .before .before)) (c .before .strip .given .0 .0)
 plan c = accepted (the-plan (c .before .before .before)) (c .before .before .before .open .ensures) (c .before .strip .given .1)
 
 abbrev Laid : Type 0
-Laid = lts.After-laying (open-reads.Asked, open-reads.Learnt, check-plan-reads.Asked, check-plan-reads.Learnt, word-fault-reads.Asked, word-fault-reads.Learnt, place-of-reads.Asked, place-of-reads.Learnt, laying-reads.Asked, laying-reads.Learnt, section-at-reads.Asked, section-at-reads.Learnt, put-answer-reads.Asked, put-answer-reads.Learnt) reads.Pre reads.Post
+Laid = tie.After-laying
 
 looked : (c : Laid) → let k = c .before .before .before .before in Looked (the-plan (k .before .before .before)) (the-window (k .before .before .before)) (k .before .strip .given .0 .0) (c .before .before .before .word-fault .result) (c .before .place-of .result) (c .laying .result)
 looked c = record { plan = plan (c .before .before .before .before); word = c .before .before .before .word-fault .ensures; none = c .before .before .if1 .left; at = c .before .place-of .ensures; found = c .laying .ensures }
