@@ -14,9 +14,13 @@ Before it is measured, all answers are compared. Ratios only; on a busy machine 
   For a cursor's step (`bench/strides.c`, called from no C): the same tests and steps, a million on each strip.
 - **memcpy**: copying as many bytes as were printed.
 
-Why the library is slower than the best C: ranks and places fill a table of 61 times 61 numbers, cleared at each call, where `best.c` needs a row of 60; words and
-marks bisect each letter with a table for each try, where `best.c` divides past the middle of the word; a lookup reads the plan's numbers byte by byte, twice, where
-`best.c` reads eight bytes at once; marks are printed a byte at a time.
+Why the library is slower than the best C, as far as parts of a call were measured by themselves (not in this run):
+
+- Ranks and places: the library fills a table of 61 times 61 numbers, as the rules ask, where `best.c` keeps two rows. Clearing the table is a twentieth of a rank on (2, 60) and
+  about a third on (36, 11); the divisions that look for divisors, timed alone, come to a quarter on (2, 60). The rest, the filling above all, was not taken apart.
+- Lookup: the 500 sections are most of it, three quarters on (2, 60) and nine tenths on (36, 11). Their numbers are read byte by byte, once for the check and once for the search.
+- Words and marks fill the table again for each letter tried, where `best.c` divides past the middle of the word. How much of the time that is was not measured.
+- Printing copies words as memcpy does; the time beside that goes into the step from word to word. It was not taken apart further.
 
 """
 

@@ -1,8 +1,8 @@
 #!/usr/bin/env python3
 """Lists every public function: whether it has a contract, how many must-fail edits bear on it, which test programs call it.
 
-An edit bears on a public function if it changes that function, or one of the same crate that it calls, or a definition in specs/ of a crate
-whose one function has that definition as its contract. Fails if a public function has no contract or fewer than two edits. Functions
+An edit bears on a public function if it changes that function, or one of the same crate that it calls, or a constant that they read, or a
+definition in specs/ of a crate whose one function has that definition as its contract. Fails if a public function has no contract or fewer than two edits. Functions
 of crates that read and write (io) promise nothing that a contract could say, and are listed without a verdict."""
 import re
 import sys
@@ -56,12 +56,11 @@ def reached(function, functions):
 
 def bears_on(function, functions, edit, constants):
     file, old = edit
-    if file.startswith("src/"):
-        near = reached(function, functions)
-        used = any(old in other.text for other in near)
-        name = re.match(r"(?:pub )?const (\w+)", old.strip())
-        return used or (name is not None and any(re.search(r"\b%s\b" % name[1], other.text) for other in near)) or old in constants
-    return len(functions) == 1
+    if not file.startswith("src/"):
+        return len(functions) == 1
+    near = reached(function, functions)
+    changed = [name for name, text in constants.items() if old in text]
+    return any(old in other.text or any(re.search(r"\b%s\b" % name, other.text) for name in changed) for other in near)
 
 
 def uses():
@@ -88,23 +87,27 @@ def calls_it(program, text, function):
 
 
 def main():
-    used, faults, total = uses(), [], 0
+    used, faults, judged, left_out = uses(), [], 0, []
     programs = test_programs(used)
     print("%-34s %-8s %5s  %s" % ("function", "contract", "edits", "called by"))
     for crate in used:
         files = sorted((ROOT / "crates" / crate / "src").glob("*.rt"))
         functions = [function for path in files for function in functions_in(crate, path)]
-        tables = "\n".join(block for path in files for block in re.findall(r"^(?:pub )?const .*?;$", path.read_text(), re.M | re.S))
+        constants = {m[2]: m[0] for path in files for m in re.finditer(r"^(pub )?const (\w+).*?;$", path.read_text(), re.M | re.S)}
         edits = list(edits_of(crate))
         for function in (f for f in functions if f.public):
-            count = sum(bears_on(function, functions, edit, tables if "const" not in edit[1] else "") for edit in edits)
+            count = sum(bears_on(function, functions, edit, constants) for edit in edits)
             callers = [program for program, text in programs.items() if calls_it(program, text, function)]
             label = "%s::%s" % (crate, function.name)
             print("%-34s %-8s %5d  %s" % (label, "yes" if function.contract else "no", count, " ".join(callers)))
-            total += 1
-            if "io" not in used[crate] and (not function.contract or count < LEAST_EDITS):
+            if "io" in used[crate]:
+                left_out.append(label)
+                continue
+            judged += 1
+            if not function.contract or count < LEAST_EDITS:
                 faults.append(label)
-    print("%d public functions, %d without a contract or with fewer than %d edits" % (total, len(faults), LEAST_EDITS))
+    print("%d public functions judged, %d of them without a contract or with fewer than %d edits" % (judged, len(faults), LEAST_EDITS))
+    print("not judged, since they read and write: %s" % (" ".join(left_out) or "none"))
     for label in faults:
         print("lacking:", label)
     return 1 if faults else 0
