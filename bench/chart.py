@@ -17,10 +17,10 @@ Before it is measured, all answers are compared. Ratios only; on a busy machine 
 Why the library is slower than the best C, as far as parts of a call were measured by themselves (not in this run):
 
 - Ranks and places: the library fills a table of 61 times 61 numbers, as the rules ask, where `best.c` keeps two rows. Clearing the table is a twentieth of a rank on (2, 60) and
-  about a third on (36, 11); the divisions that look for divisors, timed alone, come to a quarter on (2, 60). The rest, the filling above all, was not taken apart.
-- Lookup: the 500 sections are most of it, three quarters on (2, 60) and nine tenths on (36, 11). Their numbers are read byte by byte, once for the check and once for the search.
+  a third to a half on (36, 11); the divisions that look for divisors, timed alone, come to a fifth to a quarter on (2, 60). The rest was not taken apart.
+- Lookup: the 500 sections are most of it, seven tenths on (2, 60) and nine tenths on (36, 11). Their numbers are read byte by byte, once for the check and once for the search.
 - Words and marks fill the table again for each letter tried, where `best.c` divides past the middle of the word. How much of the time that is was not measured.
-- Printing copies words as memcpy does; the time beside that goes into the step from word to word. It was not taken apart further.
+- Printing: by instructions, not by time, 2^20 marks on (2, 60) are one half steps from word to word, over a third the search for the first word, and a twentieth copying.
 
 """
 
