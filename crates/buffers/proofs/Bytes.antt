@@ -8,7 +8,7 @@ use native.Mathlib.Numerals.{add-one}
 use lib.ListN.{length, getD, take, drop, set, length-append, length-take, length-drop, drop-of-length-le}
 use lib.Seq.{length-take-le, take-all, take-length, take-at, drop-at, drop-drop, paste, paste-suc}
 use borrow.Rule.Slice.PartMut.{putMid}
-use Rattle.theory.specs.Plans.{beFrom, be}
+use Rattle.theory.specs.Plans.{beFrom}
 use Rattle.buffers.specs.Buffers.{putBe, over}
 
 pub put-length : (n v : ℕ) → length (putBe n v) ≡ n

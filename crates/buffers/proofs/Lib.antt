@@ -1,2 +1,3 @@
 -- Laws of buffers.
 pub mod Bytes
+pub mod Fills

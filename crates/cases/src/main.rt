@@ -36,7 +36,7 @@ fn asked(call: &[u8], k: u64, n: u64) {
     space();
 }
 
-fn answered(answer: strip::Value) {
+fn answered(answer: calls::Value) {
     io::print_decimal(1, answer.number as u64);
     space();
     io::print_decimal(1, answer.value);
@@ -45,7 +45,7 @@ fn answered(answer: strip::Value) {
 
 fn rank(k: u64, n: u64, word: &[u8]) {
     let mut tray = [170u8; 10];
-    let number = strip::rank_of(k, n, word, &mut tray);
+    let number = words::rank_of(k, n, word, &mut tray);
     asked(b"rank", k, n);
     letters(word);
     space();
@@ -57,7 +57,7 @@ fn rank(k: u64, n: u64, word: &[u8]) {
 
 fn word(k: u64, n: u64, index: u64) {
     let mut tray = [7u8; 8];
-    let number = strip::word_of(k, n, index, &mut tray);
+    let number = words::word_of(k, n, index, &mut tray);
     asked(b"word", k, n);
     io::print_decimal(1, index);
     space();
@@ -79,20 +79,20 @@ fn words(k: u64, n: u64, last: u64) {
 
 fn count(k: u64, n: u64) {
     asked(b"count", k, n);
-    answered(strip::lyndon_count(k, n));
+    answered(words::lyndon_count(k, n));
 }
 
 fn tests(k: u64, n: u64, word: &[u8]) {
     asked(b"lyndon", k, n);
     letters(word);
     space();
-    answered(strip::is_lyndon(k, n, word));
+    answered(words::is_lyndon(k, n, word));
     asked(b"root", k, n);
     letters(word);
     space();
-    answered(strip::shortest_root(k, n, word));
+    answered(words::shortest_root(k, n, word));
     let mut tray = [7u8; 8];
-    let number = strip::smallest_rotation(k, n, word, &mut tray);
+    let number = words::smallest_rotation(k, n, word, &mut tray);
     asked(b"rotation", k, n);
     letters(word);
     space();

@@ -1,19 +1,18 @@
 -- The held word in a cursor's 60 bytes: the test of its fields, and what a cursor without fault holds.
-use mathlib.Core.Path.{_≡_, refl, sym, _∙_, ap, ap₂, subst}
+use mathlib.Core.Path.{_≡_, refl, sym, _∙_, ap, ap₂}
 use mathlib.Core.Bool.{Bool, true, false, _&&_}
-use mathlib.Core.List.{List, [], _∷_, _++_}
-use mathlib.Core.Logic.{inl, inr}
-use Prim.Native.Nat.{ℕ, zero, suc, _-_, _%_, _≤_, _<_}
+use mathlib.Core.List.{List, [], _∷_}
+use Prim.Native.Nat.{ℕ, zero, suc, _-_, _≤_, _<_}
 use native.Mathlib.Omega.{arith}
-use lib.Dec.{eqb, ltb, leb}
+use lib.Dec.{eqb, leb}
 use lib.ListN.{length, take, drop, replicate, length-drop}
 use lib.Seq.{length-take-le, take-take, take-all}
-use borrow.Author.Tests.{le-ltb, lt-ltb, le-leb, lt-leb, leb-true, ltb-true, eqb-true, ne-eqb, eq-eqb}
+use borrow.Author.Tests.{le-ltb, le-leb, lt-leb, leb-true, ltb-true, ne-eqb}
 use Rattle.theory.specs.Words.{marksOk, isLyndon}
-use Rattle.theory.specs.Rings.{cursor, divides}
+use Rattle.theory.specs.Rings.{divides}
 use Rattle.theory.specs.Strips.{cursorOk}
-use Rattle.theory.proofs.Base.{test, and-l, and-r, and-in, and-false, and-true}
-use Rattle.walks.specs.Walks.{HeldOn}
+use Rattle.theory.proofs.Base.{and-l, and-r, and-in, and-false}
+use Rattle.rings.specs.Moves.{HeldOn}
 use Rattle.shape.proofs.Limits.{limits}
 use Rattle.theory.proofs.Divisors.{divides-le}
 use Rattle.shape.specs.declared.Strip as DH
@@ -34,22 +33,6 @@ pub zeros-drop : (i : ℕ) (w : List ℕ) → allZero w ≡ true → allZero (dr
 zeros-drop zero w h = h
 zeros-drop (suc i) [] h = refl
 zeros-drop (suc i) (x ∷ w) h = zeros-drop i w (and-r (eqb x 0) (allZero w) h)
-
--- a word on the strip and a place in it, test by test
-module _ (k n : ℕ) (w : List ℕ) (p : ℕ) where
-  pub outside : length w ≤ p → cursorOk (cursor k n w p) ≡ false
-  outside h = and-false (divides (length w) n) _ (and-false (marksOk k w) _ (and-false (isLyndon w) _ (le-ltb p (length w) h)))
-
-  pub no-divisor : ¬ (n % length w ≡ 0) → cursorOk (cursor k n w p) ≡ false
-  no-divisor h = ap (λ t. t && (marksOk k w && (isLyndon w && ltb p (length w)))) (and-false (leb 1 (length w)) _ (ne-eqb (n % length w) 0 h))
-
-  pub letters-fail : marksOk k w ≡ false → cursorOk (cursor k n w p) ≡ false
-  letters-fail h = and-false (divides (length w) n) _ (ap (λ t. t && (isLyndon w && ltb p (length w))) h)
-
-  pub on-strip : p < length w → n % length w ≡ 0 → marksOk k w ≡ true → cursorOk (cursor k n w p) ≡ isLyndon w
-  on-strip a b h =
-      let whole : divides (length w) n ≡ true = and-in (le-leb 1 (length w) (omega arith)) (eq-eqb (n % length w) 0 b) in
-      ap₂ (λ x y. x && (y && (isLyndon w && ltb p (length w)))) whole h ∙ ap (λ t. isLyndon w && t) (lt-ltb p (length w) a) ∙ and-true (isLyndon w)
 
 -- a cursor, test by test: its length, the bytes after the word, the word
 module _ (c : DC.Cursor) where

@@ -1,13 +1,13 @@
 -- A cursor without fault, moved: to the next letter of its word, or to the strip's next word. And where it stands.
-use mathlib.Core.Path.{_≡_, refl, sym, _∙_, ap, ap₂, subst}
-use mathlib.Core.Bool.{Bool, true, false, _&&_}
+use mathlib.Core.Path.{_≡_, refl, sym, _∙_, ap, ap₂}
+use mathlib.Core.Bool.{true, false}
 use mathlib.Core.List.{List, [], _∷_, _++_, append-assoc}
-use Prim.Native.Nat.{ℕ, zero, suc, _+_, _-_, _≤_, _<_}
+use Prim.Native.Nat.{ℕ, suc, _+_, _-_, _≤_, _<_}
 use native.Mathlib.Omega.{arith}
 use native.Mathlib.Numerals.{add-one}
-use lib.Dec.{eqb, ltb, leb}
+use lib.Dec.{eqb, ltb}
 use lib.ListN.{length, getD, take, drop, replicate}
-use lib.Seq.{getD-take, take-at, drop-at, drop-drop, length-take-le}
+use lib.Seq.{getD-take, take-at, drop-at, drop-drop}
 use borrow.Author.Tests.{le-leb, lt-ltb, le-ltb}
 use Rattle.theory.specs.Words.{pick, below}
 use Rattle.theory.specs.Rings.{cursor, lyndonsUp, passedBy, divides}
@@ -16,15 +16,15 @@ use Rattle.theory.specs.Lists.{In}
 use Rattle.theory.proofs.Base.{and-l, and-r, and-in}
 use Rattle.theory.proofs.Divisors.{divides-le}
 use Rattle.theory.proofs.Listed.{strip-words}
-use Rattle.words.specs.Moves.{padded}
-use Rattle.walks.specs.Walks.{HeldOn, MovedIs}
-use Rattle.walks.specs.declared.Moved as DM
-use Rattle.walks.proofs.Moving.{held-in}
-use Rattle.walks.proofs.Ways.{after, after-in}
+use Rattle.steps.specs.Steps.{padded}
+use Rattle.rings.specs.Moves.{MovedIs}
+use Rattle.rings.specs.declared.Moved as DM
+use Rattle.rings.proofs.Moving.{held-in}
+use Rattle.rings.proofs.Ways.{after, after-in}
 use Rattle.shape.specs.declared.Strip as DH
 use Rattle.shape.proofs.Limits.{limits}
 use Rattle.cursors.specs.declared.Cursor as DC
-use Rattle.cursors.specs.Cursors.{allZero, cursorIn, tidy, GoodOn, Goes}
+use Rattle.cursors.specs.Cursors.{allZero, cursorIn, GoodOn, Goes}
 use Rattle.cursors.proofs.Held.{Good, good, zeros, zeros-drop, held-short, word-long, word-short, place-inside, same-word, held-on}
 
 zeros-append : (u v : List ℕ) → allZero u ≡ true → allZero v ≡ true → allZero (u ++ v) ≡ true

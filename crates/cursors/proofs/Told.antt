@@ -1,48 +1,51 @@
 -- What the calls tell: faults, refusals, answers; and the cursor at a place.
-use mathlib.Core.Path.{_≡_, refl, sym, _∙_, ap, ap₂, subst}
-use mathlib.Core.Bool.{Bool, true, false, _&&_, not}
-use mathlib.Core.List.{List, _++_}
-use Prim.Native.Nat.{ℕ, _≤_, _<_}
+use mathlib.Core.Path.{_≡_, sym, _∙_, ap, subst₂}
+use mathlib.Core.Bool.{true, false, _&&_, not}
+use mathlib.Core.List.{List}
+use Prim.Native.Nat.{ℕ, _≤_}
 use native.Mathlib.Omega.{arith}
-use lib.Dec.{eqb, leb}
-use lib.ListN.{length, take, drop, replicate}
-use lib.Seq.{take-at, drop-at}
-use borrow.Author.Tests.{ne-eqb, le-leb}
+use lib.ListN.{replicate}
+use borrow.Author.Tests.{ne-eqb, le-leb, not-false}
 use Rattle.theory.specs.Words.{when}
-use Rattle.theory.specs.Rings.{cursor}
 use Rattle.theory.specs.Strips.{cursorOk, cursorAt, stepOf}
 use Rattle.theory.proofs.Base.{and-in}
-use Rattle.buffers.specs.Buffers.{over}
-use Rattle.positions.specs.declared.Spot as DP
-use Rattle.positions.specs.Holders.{HoldsAt}
-use Rattle.walks.proofs.Moving.{held-fits, held-length}
+use Rattle.access.specs.declared.Spot as DP
+use Rattle.access.specs.Holders.{PutAt}
 use Rattle.shape.specs.declared.Strip as DH
-use Rattle.shape.specs.declared.Made.{Made}
-use Rattle.shape.specs.declared.Made.the-variants.{Fine, Refused}
-use Rattle.shape.specs.Shapes.{Shaped, madeOf}
+use Rattle.shape.specs.Shapes.{Shaped}
 use Rattle.shape.proofs.Limits.{limits}
-use Rattle.refusals.specs.Refusals.{placeFault}
-use Rattle.strip.proofs.Strips.{made-fine, strip-refused, strip-passed}
+use Rattle.calls.specs.declared.Checked.{Checked}
+use Rattle.calls.specs.declared.Checked.the-variants.{Strip, Refused}
+use Rattle.calls.specs.Refusals.{stripFault, placeFault}
+use Rattle.calls.specs.Checks.{checkedBy}
+use Rattle.calls.proofs.Checks.{first-none, when-none, passed, strip-refused, strip-then-refused, strip-then-passed, StripIs, strip-is}
 use Rattle.cursors.specs.declared.Cursor as DC
 use Rattle.cursors.specs.declared.Started as DS
 use Rattle.cursors.specs.declared.Stepped as DT
-use Rattle.cursors.specs.Cursors.{allZero, cursorIn, tidy, empty, PutAt, Is, StartSays, cursorFault, GoodOn, Goes, StepSays}
+use Rattle.cursors.specs.Cursors.{allZero, cursorIn, tidy, empty, Is, StartSays, cursorFault, GoodOn, Goes, StepSays}
 use Rattle.cursors.proofs.Held.{zeros, zeros-drop}
 
--- the fault of a cursor, by the strip made of its k and n and by the test
-module _ (c : DC.Cursor) {m : Made} (e : m ≡ madeOf (c .k) (c .n)) where
-  pub strip-fault : m ≡ Refused → cursorFault c ≡ 1
-  strip-fault f = strip-refused (c .k) (c .n) _ e f
+-- the check of a cursor, by the check m of its k and n and by the test of its fields
+module _ (c : DC.Cursor) {m : Checked} (e : m ≡ checkedBy (stripFault (c .k) (c .n)) (c .k) (c .n)) where
+  abbrev after : ℕ
+  after = when (not (tidy c && cursorOk (cursorIn c))) 10
 
-  module _ {s : DH.Strip} (f : m ≡ Fine s) where
-    pub lost-fault : false ≡ (tidy c && cursorOk (cursorIn c)) → cursorFault c ≡ 10
-    lost-fault t = strip-passed (c .k) (c .n) e f (ap (λ b. when (not b) 10) t)
+  pub no-strip : {x : ℕ} → m ≡ Refused x → Refused x ≡ checkedBy (cursorFault c) (c .k) (c .n)
+  no-strip f = strip-refused (c .k) (c .n) after e f
 
-    pub no-fault : true ≡ (tidy c && cursorOk (cursorIn c)) → cursorFault c ≡ 0
-    no-fault t = strip-passed (c .k) (c .n) e f (ap (λ b. when (not b) 10) t)
+  module _ {s : DH.Strip} (f : m ≡ Strip s) where
+    pub lost-it : false ≡ (tidy c && cursorOk (cursorIn c)) → Refused 10 ≡ checkedBy (cursorFault c) (c .k) (c .n)
+    lost-it t = strip-then-refused (c .k) (c .n) after e f (ap (λ b. when (not b) 10) (sym t)) (λ z. omega arith)
 
-    pub good-on : true ≡ (tidy c && cursorOk (cursorIn c)) → GoodOn s c
-    good-on t = let fine = made-fine (c .k) (c .n) e f in record { shaped = fine .0; letters = fine .1; marks = fine .2; good = sym t }
+    pub good-it : true ≡ (tidy c && cursorOk (cursorIn c)) → Strip s ≡ checkedBy (cursorFault c) (c .k) (c .n)
+    good-it t = strip-then-passed (c .k) (c .n) after e f (ap (λ b. when (not b) 10) (sym t))
+
+-- a cursor that passed it
+pub good-on : (c : DC.Cursor) {m : Checked} {s : DH.Strip} → m ≡ checkedBy (cursorFault c) (c .k) (c .n) → m ≡ Strip s → GoodOn s c
+good-on c e f =
+    let on = strip-is (cursorFault c) (c .k) (c .n) (λ z. first-none (stripFault (c .k) (c .n)) _ z .0) e f in
+    let none = first-none (stripFault (c .k) (c .n)) _ (passed (cursorFault c) (c .k) (c .n) e f .0) .1 in
+    record { shaped = on .shaped; letters = on .letters; marks = on .marks; good = not-false _ (when-none (not (tidy c && cursorOk (cursorIn c))) 10 (λ z. omega arith) none) }
 
 -- a step
 pub step-refused : (c : DC.Cursor) {x : ℕ} (r : DT.Stepped) → cursorFault c ≡ x → ¬ (x ≡ 0)
@@ -56,21 +59,12 @@ step-answer c r h e = rw h e
 pub start-refused : (k n p : ℕ) {x : ℕ} (r : DS.Started) → placeFault k n p ≡ x → ¬ (x ≡ 0) → (r .number ≡ x) × (empty (r .cursor) ≡ true) → StartSays k n p r
 start-refused k n p {x} r h z e = rw (h, ne-eqb x 0 z) e
 
-pub put-at : {s : DH.Strip} {p : ℕ} {v before after : List ℕ} {r : DP.Spot} → HoldsAt s p v r → after ≡ over (take (r .long) v) before → PutAt s p before after r
-put-at {s} {p} {v} {before} {after} {r} h e =
-    let long : length (take (r .long) v) ≡ r .long = held-length (h .held) in
-    let word : take (r .long) after ≡ take (r .long) v = ap (take (r .long)) e ∙ take-at (take (r .long) v) _ (r .long) long in
-    record {
-      stands = ap (λ w. cursor (s .k) (s .n) w (r .at)) word ∙ h .is;
-      rest = ap (drop (r .long)) e ∙ drop-at (take (r .long) v) _ (r .long) long ∙ ap (λ l. drop l before) long;
-      fits = omega (arith, held-fits (h .held), h .held .size);
-      inside = h .inside;
-    }
+-- the word put over zeros, with its length and the place in it
+pub started-at : {s : DH.Strip} {p : ℕ} {w : List ℕ} {r : DP.Spot} → Shaped s → PutAt s p (replicate 60 0) w r
+    → let c : DC.Cursor = record { k = s .k; n = s .n; word = w; long = r .long; place = r .at } in Is (cursorAt (s .k) (s .n) p) c
+started-at {s} {p} {w} {r} shaped put =
+    let short : r .long ≤ 60 = omega (arith, put .fits, limits shaped .short) in
+    (put .stands, and-in (le-leb (r .long) 60 short) (ap allZero (put .rest) ∙ zeros-drop (r .long) (replicate 60 0) (zeros 60)))
 
-pub start-answer : (k n p : ℕ) {m : Made} {s : DH.Strip} {w : List ℕ} {r : DP.Spot} → m ≡ madeOf k n → m ≡ Fine s → placeFault k n p ≡ 0 → PutAt s p (replicate 60 0) w r
-    → StartSays k n p (record { number = 0; cursor = record { k = k; n = n; word = w; long = r .long; place = r .at } })
-start-answer k n p {m} {s} {w} {r} e f h put =
-    let fine = made-fine k n e f in
-    let is : cursor k n (take (r .long) w) (r .at) ≡ cursorAt k n p = subst (λ x. cursor x n (take (r .long) w) (r .at) ≡ cursorAt x n p) (fine .1) (subst (λ x. cursor (s .k) x (take (r .long) w) (r .at) ≡ cursorAt (s .k) x p) (fine .2) (put .stands)) in
-    let short : r .long ≤ 60 = omega (arith, put .fits, limits (fine .0) .short) in
-    rw h (refl, (is, and-in (le-leb (r .long) 60 short) (ap allZero (put .rest) ∙ zeros-drop (r .long) (replicate 60 0) (zeros 60))))
+pub start-answer : (k n p : ℕ) {s : DH.Strip} (r : DS.Started) → placeFault k n p ≡ 0 → StripIs k n s → (r .number ≡ 0) × Is (cursorAt (s .k) (s .n) p) (r .cursor) → StartSays k n p r
+start-answer k n p r h on e = rw h (e .0, subst₂ (λ x y. Is (cursorAt x y p) (r .cursor)) (on .letters) (on .marks) (e .1))

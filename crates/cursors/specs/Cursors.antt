@@ -1,19 +1,18 @@
 -- What the cursor calls promise, for any bytes in a cursor's fields.
 use mathlib.Core.Path.{_≡_}
-use mathlib.Core.Bool.{Bool, true, false, _&&_, not}
+use mathlib.Core.Bool.{Bool, true, _&&_, not}
 use mathlib.Core.List.{List, [], _∷_}
-use Prim.Native.Nat.{ℕ, _≤_, _<_}
+use Prim.Native.Nat.{ℕ}
 use lib.Dec.{eqb, leb}
 use lib.ListN.{take, drop}
 use Rattle.theory.specs.Words.{pick, pickT, firstOf, when}
 use Rattle.theory.specs.Rings.{Cursor, Stepped, cursor}
 use Rattle.theory.specs.Strips.{cursorOk, cursorAt, placeIn, stepOf}
-use Rattle.positions.specs.declared.Spot as DP
 use Rattle.shape.specs.declared.Strip as DH
 use Rattle.shape.specs.Shapes.{Shaped}
-use Rattle.refusals.specs.Refusals.{stripFault, placeFault}
-use Rattle.strip.specs.Says.{ValueIs}
-use Rattle.strip.specs.declared.Value as DV
+use Rattle.calls.specs.Refusals.{stripFault, placeFault}
+use Rattle.calls.specs.Answers.{ValueIs}
+use Rattle.calls.specs.declared.Value as DV
 use Rattle.cursors.specs.declared.Cursor as DC
 use Rattle.cursors.specs.declared.Started as DS
 use Rattle.cursors.specs.declared.Stepped as DT
@@ -34,13 +33,6 @@ Is x c = (cursorIn c ≡ x) × (tidy c ≡ true)
 
 abbrev pub empty : DC.Cursor → Bool
 empty c = eqb (c .k) 0 && (eqb (c .n) 0 && (eqb (c .long) 0 && (eqb (c .place) 0 && allZero (c .word))))
-
--- a buffer whose first letters are the word that holds a place of the strip, the others as before
-pub record PutAt (s : DH.Strip) (p : ℕ) (before after : List ℕ) (r : DP.Spot) : Type 0 where
-  pub stands : cursor (s .k) (s .n) (take (r .long) after) (r .at) ≡ cursorAt (s .k) (s .n) p
-  pub rest : drop (r .long) after ≡ drop (r .long) before
-  pub fits : r .long ≤ s .n
-  pub inside : r .at < r .long
 
 -- a start: the cursor at the place, or one that is zero in every field
 abbrev pub StartSays : ℕ → ℕ → ℕ → DS.Started → Type 0

@@ -1,16 +1,15 @@
 // Cursors: a strip, a word of it that is held, and a place in that word. A cursor starts at any place of the strip and steps from mark to mark.
 ghost use mathlib.Core.Path.{_≡_};
 ghost use mathlib.Core.Bool.{true, _&&_};
-ghost use Prim.Native.Nat.{_≤_, _<_};
-ghost use lib.ListN.{length};
-ghost use Rattle.theory.specs.Rings.{cursor};
-ghost use Rattle.theory.specs.Strips.{cursorOk, placeIn, stepOf};
+ghost use Prim.Native.Nat.{_<_};
+ghost use Rattle.theory.specs.Strips.{cursorOk, cursorAt, placeIn, stepOf};
 ghost use Rattle.shape.specs.Shapes.{Shaped};
-ghost use Rattle.cursors.specs.Cursors.{cursorIn, tidy, empty, PutAt, StartSays, WhereSays, GoodOn, Goes, StepSays};
-use positions::Spot;
-use shape::Made;
+ghost use Rattle.calls.specs.Checks.{checkedBy};
+ghost use Rattle.cursors.specs.Cursors.{cursorIn, tidy, empty, Is, cursorFault, StartSays, WhereSays, GoodOn, Goes, StepSays};
+use calls::Checked;
+use calls::Value;
+use calls::refusals;
 use shape::Strip;
-use strip::Value;
 
 // The held word in the first `long` of 60 bytes with zeros after it; `place` is the place in it.
 pub struct Cursor {
@@ -33,23 +32,7 @@ pub struct Stepped {
     pub cursor: Cursor,
 }
 
-// Is it a word of the strip, and the place in it?
-fn is_on(k: u64, n: u64, word: &[u8], place: u64) -> bool
-    ensures { λ r. ⌜ r ≡ cursorOk (cursor k n (now (word .entry)) place) ⌝ }
-{
-    let long = word.len() as u64;
-    if long <= place {
-        return false;
-    }
-    if n % long != 0 {
-        return false;
-    }
-    if words::tests::letters_below(k, word) {
-        return words::tests::is_lyndon(word);
-    }
-    false
-}
-
+// Does it hold a word of its strip, a place in it, and zeros after it?
 fn is_good(c: Cursor) -> bool
     ensures { λ r. ⌜ r ≡ (tidy c && cursorOk (cursorIn c)) ⌝ }
 {
@@ -59,10 +42,46 @@ fn is_good(c: Cursor) -> bool
         return false;
     }
     // zeros are the letters below 1
-    if words::tests::letters_below(1, &word[long..]) {
-        return is_on(c.k as u64, c.n as u64, &word[..long], c.place as u64);
+    if lyndon::letters_below(1, &word[long..]) {
+        return rings::is_on(c.k as u64, c.n as u64, &word[..long], c.place as u64);
     }
     false
+}
+
+// The cursor's strip, or its fault.
+fn check(c: Cursor) -> Checked
+    ensures { λ r. ⌜ r ≡ checkedBy (cursorFault c) (c .k) (c .n) ⌝ }
+{
+    match calls::check_strip(c.k as u64, c.n as u64) {
+        Checked::Refused(number) => Checked::Refused(number),
+        Checked::Strip(strip) => {
+            if is_good(c) {
+                return Checked::Strip(strip);
+            }
+            Checked::Refused(refusals::LOST_CURSOR)
+        }
+    }
+}
+
+// The cursor at a place that is on the strip.
+fn start_at(s: Strip, place: u64) -> Started
+    requires { ⌜ Shaped s × (place < s .size) ⌝ }
+    ensures { λ r. ⌜ (r .number ≡ 0) × Is (cursorAt (s .k) (s .n) place) (r .cursor) ⌝ }
+{
+    let mut room = [0u8; 60];
+    let mut word = [0u8; 60];
+    let marks = s.n as usize;
+    let spot = access::hold(s, place, &mut room[..marks], &mut word);
+    Started {
+        number: 0,
+        cursor: Cursor {
+            k: s.k as u8,
+            n: s.n as u8,
+            word,
+            long: spot.long as u8,
+            place: spot.at as u8,
+        },
+    }
 }
 
 fn refused_start(number: u8) -> Started
@@ -80,72 +99,37 @@ fn refused_start(number: u8) -> Started
     }
 }
 
-// The word that holds a place of the strip, over the start of a buffer; `room` is used up.
-fn hold(s: Strip, p: u64, room: &mut [u8], out: &mut [u8]) -> Spot
-    requires { ⌜ Shaped s × (p < s .size) × (length (now room) ≡ s .n) × (60 ≤ length (now out)) ⌝ }
-    ensures { λ r. ⌜ PutAt s p (now (out .entry)) (now (out .exit)) r ⌝ }
-{
-    let spot = positions::holder(s, p, room);
-    let long = spot.long;
-    buffers::copy(&room[..long], out);
-    spot
-}
-
 // The cursor at a place of the strip.
 pub fn start_cursor(k: u64, n: u64, place: u64) -> Started
     ensures { λ r. ⌜ StartSays k n place r ⌝ }
 {
-    let Made::Fine(strip) = Strip::new(k, n) else {
-        return refused_start(refusals::NO_SUCH_STRIP);
-    };
-    if strip.size <= place {
-        return refused_start(refusals::OFF_THE_STRIP);
-    }
-    let mut room = [0u8; 60];
-    let mut word = [0u8; 60];
-    let marks = n as usize;
-    let spot = hold(strip, place, &mut room[..marks], &mut word);
-    Started {
-        number: 0,
-        cursor: Cursor {
-            k: k as u8,
-            n: n as u8,
-            word,
-            long: spot.long as u8,
-            place: spot.at as u8,
-        },
+    match calls::check_place(k, n, place) {
+        Checked::Refused(number) => refused_start(number),
+        Checked::Strip(strip) => start_at(strip, place),
     }
 }
 
-// The place of the strip that the cursor stands on.
-pub fn cursor_place(c: Cursor) -> Value
-    ensures { λ r. ⌜ WhereSays c r ⌝ }
-{
-    let Made::Fine(strip) = Strip::new(c.k as u64, c.n as u64) else {
-        return Value {
-            number: refusals::NO_SUCH_STRIP,
-            value: 0,
-        };
-    };
-    if is_good(c) {
-        return Value {
-            number: 0,
-            value: place_on(strip, c),
-        };
-    }
-    Value {
-        number: refusals::LOST_CURSOR,
-        value: 0,
-    }
-}
-
+// The place of the strip that a cursor without fault stands on.
 fn place_on(s: Strip, c: Cursor) -> u64
     requires { ⌜ GoodOn s c ⌝ }
     ensures { λ r. ⌜ r ≡ placeIn (cursorIn c) ⌝ }
 {
     let mut word = c.word;
     let marks = c.n as usize;
-    positions::position(s, &mut word[..marks], c.long as usize, c.place as usize)
+    access::position(s, &mut word[..marks], c.long as usize, c.place as usize)
+}
+
+// The place of the strip that the cursor stands on.
+pub fn cursor_place(c: Cursor) -> Value
+    ensures { λ r. ⌜ WhereSays c r ⌝ }
+{
+    match check(c) {
+        Checked::Refused(number) => Value { number, value: 0 },
+        Checked::Strip(strip) => Value {
+            number: 0,
+            value: place_on(strip, c),
+        },
+    }
 }
 
 // A refused step leaves the cursor as it is.
@@ -183,7 +167,7 @@ fn onward(s: Strip, c: Cursor) -> Stepped
         };
     }
     let marks = c.n as usize;
-    let moved = walks::next_word(s, &mut word[..marks], c.long as usize);
+    let moved = rings::next_word(s, &mut word[..marks], c.long as usize);
     Stepped {
         number: 0,
         mark,
@@ -203,16 +187,14 @@ impl Cursor {
     pub fn step(self) -> Stepped
         ensures { λ r. ⌜ StepSays self r ⌝ }
     {
-        let Made::Fine(strip) = Strip::new(self.k as u64, self.n as u64) else {
-            return lost(refusals::NO_SUCH_STRIP, self);
-        };
-        if is_good(self) {
-            return onward(strip, self);
+        match check(self) {
+            Checked::Refused(number) => lost(number, self),
+            Checked::Strip(strip) => onward(strip, self),
         }
-        lost(refusals::LOST_CURSOR, self)
     }
 }
 
+// The same, as a function.
 pub fn step_cursor(c: Cursor) -> Stepped
     ensures { λ r. ⌜ StepSays c r ⌝ }
 {

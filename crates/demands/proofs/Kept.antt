@@ -1,15 +1,14 @@
 -- Why the promise is kept: a call that is not refused leaves its answer over the start of the tray, and answers undo each other.
 use mathlib.Core.Path.{_≡_, refl, sym, _∙_, ap, subst}
 use mathlib.Core.Bool.{true}
-use mathlib.Core.List.{List, []}
+use mathlib.Core.List.{List}
 use Prim.Native.Nat.{ℕ, _^_, _≤_, _<_}
 use native.Mathlib.Omega.{arith}
-use lib.Dec.{eqb}
 use lib.ListN.{length, take, drop}
 use lib.Seq.{take-at}
 use borrow.Author.Tests.{eq-eqb, le-ltb}
-use Rattle.theory.specs.Words.{pick, marksOk, isLyndon, lyndons, howMany, rank, wordOf, allWords}
-use Rattle.theory.specs.Strips.{admitted, window, marksFrom, placeOf}
+use Rattle.theory.specs.Words.{marksOk, isLyndon, howMany, rank, wordOf, allWords}
+use Rattle.theory.specs.Strips.{admitted, window, placeOf}
 use Rattle.theory.specs.Plans.{be}
 use Rattle.theory.proofs.AllWords.{all-count}
 use Rattle.theory.proofs.Counts.{keep-length}
@@ -17,11 +16,11 @@ use Rattle.theory.proofs.Ranks.{undone}
 use Rattle.theory.proofs.Reading.{letters-length}
 use Rattle.theory.proofs.Rings.{one-place, window-marks}
 use Rattle.theory.proofs.Theorems.{theorems}
-use Rattle.buffers.specs.Buffers.{putBe, over}
-use Rattle.buffers.proofs.Bytes.{put-read}
-use Rattle.refusals.specs.Refusals.{theWordFault, indexFault}
-use Rattle.strip.specs.Says.{Into, Number, RankSays, WordSays, PlaceSays, PrintSays}
-use Rattle.strip.proofs.Indexes.{index-fine}
+use Rattle.buffers.specs.Buffers.{over}
+use Rattle.calls.specs.Refusals.{theWordFault, indexFault}
+use Rattle.words.specs.Says.{RankSays, WordSays}
+use Rattle.marks.specs.Says.{PlaceSays, PrintSays}
+use Rattle.words.proofs.Indexes.{index-fine}
 use Rattle.listing.proofs.Whole.{whole-listing}
 use Rattle.demands.specs.Demands.{Demands}
 use Rattle.demands.proofs.Faults.{admitted-limits, strip-fine, place-faultless}
@@ -33,7 +32,7 @@ word-fine : (k n : ℕ) (w : List ℕ) → admitted k n ≡ true → length w �
 word-fine k n w a e m = rw (a, eq-eqb (length w) n e, m) refl
 
 index-faultless : (k n i : ℕ) → admitted k n ≡ true → 1 ≤ i → i ≤ howMany k n → indexFault k n i ≡ 0
-index-faultless k n i a b c = rw (strip-fine k n a) (sym (index-fine k n i b c))
+index-faultless k n i a b c = rw (strip-fine k n a) (index-fine k n i b c)
 
 many-small : (k n : ℕ) → howMany k n ≤ k ^ n
 many-small k n = omega (arith, keep-length isLyndon (allWords k n), all-count k n)

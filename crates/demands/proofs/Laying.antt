@@ -1,22 +1,22 @@
 -- The lookup down to the bytes: a window inside a section is answered so, and what is answered is so.
-use mathlib.Core.Path.{_≡_, refl, sym, _∙_, ap, ap₂, subst}
+use mathlib.Core.Path.{_≡_, _∙_, ap, ap₂}
 use mathlib.Core.List.{List, [], _++_}
-use Prim.Native.Nat.{ℕ, suc, _+_, _-_, _^_, _≤_, _<_}
+use Prim.Native.Nat.{ℕ, _+_, _-_, _^_, _≤_, _<_}
 use native.Mathlib.Omega.{arith}
 use lib.Dec.{eqb}
 use lib.ListN.{length, drop}
 use Rattle.theory.specs.Words.{pick}
 use Rattle.theory.specs.Strips.{window}
-use Rattle.theory.specs.Plans.{be, shades, marks, sectionCount, sections, nthS, planFault, wordFault, lookupFault, layingOf, distanceOf}
+use Rattle.theory.specs.Plans.{be, shades, marks, sectionCount, sections, nthS, planFault, lookupFault, layingOf, distanceOf}
 use Rattle.theory.proofs.Rings.{one-place}
 use Rattle.theory.proofs.Laying as theory
 use Rattle.buffers.specs.Buffers.{putBe, over}
 use Rattle.buffers.proofs.Bytes.{put-read}
 use Rattle.plans.proofs.Tests.{accepted-whole}
-use Rattle.strip.specs.Says.{LookupSays}
-use Rattle.strip.proofs.Strips.{word-fine}
+use Rattle.lookups.specs.Says.{LookupSays}
+use Rattle.calls.proofs.Checks.{word-fine}
 use Rattle.demands.proofs.Faults.{admitted-limits}
-use Rattle.demands.proofs.Trays.{into-fine, answered, small}
+use Rattle.demands.proofs.Trays.{into-fine, answered}
 
 -- the answer's bytes
 abbrev bytes : ℕ → ℕ → List ℕ

@@ -1,5 +1,5 @@
 -- What a call leaves in a tray: its answer over the start, or the tray as it was; and numbers read back from it.
-use mathlib.Core.Path.{_≡_, refl, sym, _∙_, ap, subst}
+use mathlib.Core.Path.{_≡_, refl, _∙_, ap, subst}
 use mathlib.Core.Bool.{true, false}
 use mathlib.Core.List.{List, []}
 use mathlib.Core.Logic.{_≢_, inl, inr}
@@ -8,13 +8,13 @@ use native.Mathlib.Omega.{arith}
 use lib.Dec.{eqb, ltb}
 use lib.ListN.{length}
 use borrow.Author.Tests.{le-ltb, ltb-false, ne-eqb}
-use Rattle.theory.specs.Words.{pick, firstOf, when}
+use Rattle.theory.specs.Words.{pick}
 use Rattle.theory.specs.Strips.{admitted}
 use Rattle.theory.specs.Plans.{be}
 use Rattle.theory.proofs.Base.{test}
 use Rattle.buffers.specs.Buffers.{putBe, over}
 use Rattle.buffers.proofs.Bytes.{put-read, over-length}
-use Rattle.strip.specs.Says.{Into, Number}
+use Rattle.calls.specs.Answers.{Into, Number}
 use Rattle.demands.proofs.Faults.{admitted-limits}
 
 -- no fault, so the answer over the start of the tray

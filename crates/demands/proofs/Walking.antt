@@ -1,9 +1,9 @@
 -- A cursor that is started steps along the strip, mark by mark, and round its end.
 use mathlib.Core.Path.{_≡_, refl, sym, _∙_, ap, ap₂, subst}
-use mathlib.Core.Bool.{Bool, true, false, _&&_, not}
-use mathlib.Core.List.{List, [], _∷_}
+use mathlib.Core.Bool.{true, _&&_, not}
+use mathlib.Core.List.{List, _∷_}
 use mathlib.Core.Logic.{inl, inr}
-use Prim.Native.Nat.{ℕ, zero, suc, _+_, _^_, _≤_, _<_}
+use Prim.Native.Nat.{ℕ, suc, _+_, _^_, _≤_, _<_}
 use native.Mathlib.Omega.{arith}
 use native.Mathlib.Nat.{add-zero}
 use lib.Dec.{ltb}
@@ -15,10 +15,10 @@ use Rattle.theory.proofs.Base.{test, and-in}
 use Rattle.theory.proofs.Cursors.{cursors}
 use Rattle.theory.proofs.Reading.{modulo-small, modulo-lt, letters-modulo}
 use Rattle.shape.proofs.Limits.{Limits}
-use Rattle.walks.proofs.Printing.{modulo-plus}
-use Rattle.positions.proofs.Holding.{at-kept}
-use Rattle.refusals.specs.Refusals.{stripFault}
-use Rattle.strip.specs.declared.Value as DV
+use Rattle.rings.proofs.Printing.{modulo-plus}
+use Rattle.access.proofs.Holding.{at-kept}
+use Rattle.calls.specs.Refusals.{stripFault}
+use Rattle.calls.specs.declared.Value as DV
 use Rattle.cursors.specs.declared.Cursor as DC
 use Rattle.cursors.specs.declared.Started as DS
 use Rattle.cursors.specs.declared.Stepped as DT

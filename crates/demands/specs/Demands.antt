@@ -12,8 +12,11 @@ use Rattle.theory.specs.Strips.{admitted, markAt, marksFrom, window}
 use Rattle.theory.specs.Plans.{be, shades, marks, sectionCount, sections, nthS, planFault}
 use Rattle.theory.specs.Theorems.{Theorems}
 use Rattle.buffers.specs.Buffers.{putBe, over}
-use Rattle.strip.specs.declared.Value as DV
-use Rattle.strip.specs.Says.{Into, RankSays, WordSays, PlaceSays, PrintSays, LookupSays}
+use Rattle.calls.specs.declared.Value as DV
+use Rattle.calls.specs.Answers.{Into}
+use Rattle.words.specs.Says.{RankSays, WordSays}
+use Rattle.marks.specs.Says.{PlaceSays, PrintSays}
+use Rattle.lookups.specs.Says.{LookupSays}
 use Rattle.cursors.specs.declared.Cursor as DC
 use Rattle.cursors.specs.declared.Started as DS
 use Rattle.cursors.specs.declared.Stepped as DT

@@ -8,7 +8,7 @@ use Rattle.shape.specs.declared.Strip as DS
 use Rattle.shape.specs.Shapes.{Shaped}
 use Rattle.shape.proofs.Limits.{limits}
 use Rattle.texts.specs.Texts.{decimal, Adds}
-use Rattle.texts.specs.Listings.{fields, stripText, stripLine}
+use Rattle.listing.specs.Listings.{fields, stripText, stripLine}
 use Rattle.texts.proofs.Decimals.{decimal-fits}
 use Rattle.listing.specs.Lines.{LineIs}
 

@@ -1,4 +1,5 @@
 -- Laws of lines.
+pub mod Lines
 pub mod Building
 pub mod Sections
 pub mod Openings

@@ -1,5 +1,5 @@
 -- What an opened plan is known to be, and its lines: an accepted plan's strip and sections, a refused plan's fault.
-use mathlib.Core.Path.{_≡_, refl, sym, _∙_, ap, ap₂, subst}
+use mathlib.Core.Path.{_≡_, sym, _∙_, ap, ap₂, subst}
 use mathlib.Core.Bool.{true, false, _&&_}
 use mathlib.Core.List.{List, []}
 use Prim.Native.Nat.{ℕ, suc, _+_, _^_, _≤_, _<_}
@@ -13,14 +13,14 @@ use Rattle.theory.specs.Plans.{shades, marks, sectionCount, sections, nthS, pla
 use Rattle.theory.proofs.Base.{and-false}
 use Rattle.theory.proofs.Laying.{plan-good, sections-length, straight-at}
 use Rattle.shape.specs.declared.Strip as DS
-use Rattle.shape.specs.Shapes.{Shaped}
 use Rattle.shape.proofs.Limits.{limits}
-use Rattle.texts.specs.Listings.{stripLine, sectionLine, refusedLine, lineCount, lineOf}
-use Rattle.texts.proofs.Lines.{section-line}
-use Rattle.plans.specs.Opened.{openedOf}
-use Rattle.plans.proofs.Opening.{Accepted, accepted, refused-by}
+use Rattle.listing.specs.Listings.{stripLine, sectionLine, refusedLine, lineCount, lineOf}
+use Rattle.listing.proofs.Lines.{section-line}
+use Rattle.calls.specs.declared.Checked.{Checked}
+use Rattle.calls.specs.declared.Checked.the-variants.{Refused}
+use Rattle.calls.proofs.Checks.{refused-by}
 use Rattle.plans.specs.declared.Section as DX
-use Rattle.plans.specs.declared.Opened.the-variants.{Strip, Refused}
+use Rattle.plans.specs.Opened.{openedOf, Accepted}
 use Rattle.listing.specs.declared.Line as DL
 use Rattle.listing.specs.Lines.{LineIs, sectionOf}
 
@@ -28,27 +28,18 @@ use Rattle.listing.specs.Lines.{LineIs, sectionOf}
 pub line-for : (s : List ℕ) {i : ℕ} (j : ℕ) {text : List ℕ} {r : DL.Line} → j ≡ i → text ≡ lineOf s j → LineIs text r → LineIs (lineOf s i) r
 line-for s j {r = r} e t l = subst (λ u. LineIs u r) (t ∙ ap (lineOf s) e) l
 
--- an accepted plan: no fault, and its strip
-module _ (s : List ℕ) {x : DS.Strip} (h : openedOf s ≡ Strip x) where
-  plan : Accepted s x
-  plan = accepted s refl h
-
-  pub no-fault : planFault s ≡ 0
-  no-fault = plan .faultless
-
+-- an accepted plan, with the strip that it is laid on
+module _ (s : List ℕ) {x : DS.Strip} (plan : Accepted s x) where
   good : eqb (planFault s) 0 ≡ true
-  good = eq-eqb _ _ no-fault
-
-  pub shaped : Shaped x
-  shaped = plan .shaped
+  good = eq-eqb _ _ (plan .faultless)
 
   pub section-starts : (i : ℕ) → i < sectionCount s → nthS (sections s) i .offset < x .size
   section-starts i g =
-      let (_, _, straight) = plan-good s no-fault in
+      let (_, _, straight) = plan-good s (plan .faultless) in
       let c : i < length (sections s) = omega (arith, sections-length (sectionCount s) (drop 4 s)) in
       let y = straight-at (marks s) (shades s ^ marks s) 0 (sections s) i straight c in
-      let size : x .size ≡ shades s ^ marks s = shaped .size ∙ ap₂ _^_ (plan .letters) (plan .marked) in
-      omega (arith, y .ends, y .wide, plan .marked, limits shaped .some, size)
+      let size : x .size ≡ shades s ^ marks s = plan .shaped .size ∙ ap₂ _^_ (plan .letters) (plan .marked) in
+      omega (arith, y .ends, y .wide, plan .marked, limits (plan .shaped) .some, size)
 
   -- its lines
   pub count-is : sectionCount s + 1 ≡ lineCount s
@@ -69,9 +60,9 @@ module _ (s : List ℕ) {x : DS.Strip} (h : openedOf s ≡ Strip x) where
       sym (ap (λ c. pick c (sectionLine (shades s) (marks s) i (nthS (sections s) i)) []) (and-false (eqb (planFault s) 0) _ (le-ltb i (sectionCount s) b)))
 
 -- a refused plan
-module _ (s : List ℕ) {f : ℕ} (h : openedOf s ≡ Refused f) where
+module _ (s : List ℕ) {c : Checked} {f : ℕ} (e : c ≡ openedOf s) (h : c ≡ Refused f) where
   refused : (eqb (planFault s) 0 ≡ false) × (planFault s ≡ f)
-  refused = let (is, some) = refused-by s refl h in (ne-eqb (planFault s) 0 (λ z. some (sym is ∙ z)), is)
+  refused = let (is, some) = refused-by (planFault s) (shades s) (marks s) e h in (ne-eqb (planFault s) 0 (λ z. some (sym is ∙ z)), is)
 
   pub one-line : 1 ≡ lineCount s
   one-line = sym (ap (λ b. pick b (suc (sectionCount s)) 1) (refused .0))

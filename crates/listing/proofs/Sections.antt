@@ -15,9 +15,9 @@ use Rattle.shape.specs.declared.Strip as DS
 use Rattle.shape.specs.Shapes.{Shaped}
 use Rattle.shape.proofs.Limits.{limits}
 use Rattle.texts.specs.Texts.{decimal, glyphs}
-use Rattle.texts.specs.Listings.{fields, sectionLine}
-use Rattle.texts.proofs.Lines.{glyphs-length}
-use Rattle.positions.proofs.Reading.{room, in-room}
+use Rattle.listing.specs.Listings.{fields, sectionLine}
+use Rattle.texts.proofs.Digits.{glyphs-length}
+use Rattle.access.proofs.Reading.{room, in-room}
 use Rattle.listing.proofs.Building.{four-apart}
 
 module _ {s : DS.Strip} (h : Shaped s) (x : Section) {v : List ℕ} (e : v ≡ marksFrom (s .k) (s .n) (x .offset) (length (take (s .n) room))) where

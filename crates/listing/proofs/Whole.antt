@@ -3,8 +3,8 @@ use mathlib.Core.Path.{_≡_, refl, _∙_, ap₂}
 use mathlib.Core.List.{List, _++_}
 use Prim.Native.Nat.{ℕ, zero, suc, _+_, _≤_, _<_}
 use native.Mathlib.Omega.{arith}
-use Rattle.texts.specs.Listings.{lineCount, lineOf, linesFrom}
-use Rattle.texts.proofs.Lines.{by-lines}
+use Rattle.listing.specs.Listings.{lineCount, lineOf, linesFrom}
+use Rattle.listing.proofs.Lines.{by-lines}
 use Rattle.listing.specs.declared.Line as DL
 use Rattle.listing.specs.Lines.{LineIs, linesRead, Whole-listing}
 

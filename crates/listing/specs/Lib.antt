@@ -1,2 +1,3 @@
--- A line of a plan's listing, as it is answered.
+-- The text of a plan's listing, and a line of it as it is answered.
+pub mod Listings
 pub mod Lines

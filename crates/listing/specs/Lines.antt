@@ -4,7 +4,7 @@ use mathlib.Core.List.{List, [], _++_}
 use Prim.Native.Nat.{ℕ, zero, suc, _≤_, _<_}
 use lib.ListN.{take}
 use Rattle.theory.specs.Plans.{Section}
-use Rattle.texts.specs.Listings.{listing, lineCount, lineOf}
+use Rattle.listing.specs.Listings.{listing, lineCount, lineOf}
 use Rattle.plans.specs.declared.Section as DX
 use Rattle.listing.specs.declared.Line as DL
 

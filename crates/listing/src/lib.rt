@@ -3,11 +3,10 @@ ghost use mathlib.Core.Path.{_≡_};
 ghost use mathlib.Core.List.{[]};
 ghost use Prim.Native.Nat.{_<_};
 ghost use Rattle.shape.specs.Shapes.{Shaped};
-ghost use Rattle.texts.specs.Listings.{stripLine, sectionLine, refusedLine, lineCount, lineOf};
-ghost use Rattle.plans.specs.Opened.{openedOf};
-ghost use Rattle.plans.specs.declared.Opened.the-variants.{Strip as Accepted};
+ghost use Rattle.listing.specs.Listings.{stripLine, sectionLine, refusedLine, lineCount, lineOf};
+ghost use Rattle.plans.specs.Opened.{openedOf, Accepted};
 ghost use Rattle.listing.specs.Lines.{LineIs, sectionOf};
-use plans::Opened;
+use calls::Checked;
 use plans::Section;
 use shape::Strip;
 
@@ -17,6 +16,7 @@ pub struct Line {
     pub long: usize,
 }
 
+// No bytes.
 fn empty() -> Line
     ensures { λ r. ⌜ LineIs [] r ⌝ }
 {
@@ -24,6 +24,7 @@ fn empty() -> Line
     Line { bytes, long: 0 }
 }
 
+// The one line of a refused plan.
 fn refused_line(number: u8) -> Line
     ensures { λ r. ⌜ LineIs (refusedLine number) r ⌝ }
 {
@@ -33,6 +34,7 @@ fn refused_line(number: u8) -> Line
     Line { bytes, long }
 }
 
+// The strip that a plan is laid on.
 fn strip_line(s: Strip) -> Line
     requires { ⌜ Shaped s ⌝ }
     ensures { λ r. ⌜ LineIs (stripLine (s .k) (s .n)) r ⌝ }
@@ -56,7 +58,7 @@ fn section_line(s: Strip, i: u64, section: Section) -> Line
     let numbers = texts::put_number(section.long, b' ', &mut bytes, offset);
     let mut room = [0u8; 60];
     let window = &mut room[..s.n as usize];
-    positions::letters(s, section.offset, window);
+    access::letters(s, section.offset, window);
     let end = texts::put_letters(window, &mut bytes, numbers);
     let long = texts::put_bytes(b"\n", &mut bytes, end);
     Line { bytes, long }
@@ -64,7 +66,7 @@ fn section_line(s: Strip, i: u64, section: Section) -> Line
 
 // A line of an accepted plan: its strip, then its sections.
 fn accepted_line(plan: &[u8], s: Strip, i: u64) -> Line
-    requires { ⌜ openedOf (now plan) ≡ Accepted s ⌝ }
+    requires { ⌜ Accepted (now plan) s ⌝ }
     ensures { λ r. ⌜ LineIs (lineOf (now (plan .entry)) i) r ⌝ }
 {
     if i == 0 {
@@ -77,23 +79,25 @@ fn accepted_line(plan: &[u8], s: Strip, i: u64) -> Line
     empty()
 }
 
-// How many lines there are.
-pub fn count(plan: &[u8]) -> u64
+// How many lines there are, of a plan that was opened.
+pub fn count(plan: &[u8], opened: Checked) -> u64
+    requires { ⌜ opened ≡ openedOf (now plan) ⌝ }
     ensures { λ r. ⌜ r ≡ lineCount (now (plan .entry)) ⌝ }
 {
-    match plans::open(plan) {
-        Opened::Strip(_) => plans::count(plan) + 1,
-        Opened::Refused(_) => 1,
+    match opened {
+        Checked::Strip(_) => plans::count(plan) + 1,
+        Checked::Refused(_) => 1,
     }
 }
 
-// Line i; no bytes if there is none.
-pub fn line_at(plan: &[u8], i: u64) -> Line
+// Line i of a plan that was opened; no bytes if there is none.
+pub fn line_at(plan: &[u8], opened: Checked, i: u64) -> Line
+    requires { ⌜ opened ≡ openedOf (now plan) ⌝ }
     ensures { λ r. ⌜ LineIs (lineOf (now (plan .entry)) i) r ⌝ }
 {
-    match plans::open(plan) {
-        Opened::Strip(s) => accepted_line(plan, s, i),
-        Opened::Refused(number) => {
+    match opened {
+        Checked::Strip(s) => accepted_line(plan, s, i),
+        Checked::Refused(number) => {
             if i == 0 {
                 return refused_line(number);
             }

@@ -1,5 +1,5 @@
 -- The tests of a plan, in their order: torn, no such strip, crooked; and what an accepted plan is known to be.
-use mathlib.Core.Path.{_≡_, refl, sym, _∙_, ap, ap₂}
+use mathlib.Core.Path.{_≡_, refl, sym, _∙_, ap}
 use mathlib.Core.Bool.{Bool, true, false, _||_, not, true≢false}
 use mathlib.Core.List.{List}
 use Prim.Native.Nat.{ℕ, _+_, _-_, _*_, _/_, _^_, _≤_, _<_}
@@ -15,9 +15,11 @@ use Rattle.shape.specs.declared.Strip as DS
 use Rattle.shape.specs.declared.Made.{Made}
 use Rattle.shape.specs.declared.Made.the-variants.{Fine, Refused as None}
 use Rattle.shape.specs.Shapes.{madeOf}
-use Rattle.shape.proofs.Making.{made-strip, made-none}
-use Rattle.plans.specs.Opened.{openedOf, pickOpened}
-use Rattle.plans.specs.declared.Opened.the-variants.{Strip, Refused}
+use Rattle.shape.proofs.Making.{made-none}
+use Rattle.calls.specs.declared.Checked.the-variants.{Strip, Refused}
+use Rattle.calls.specs.Checks.{stripOf}
+use Rattle.calls.proofs.Checks.{refused-with, passed-with, made-admits, made-is}
+use Rattle.plans.specs.Opened.{openedOf}
 use Rattle.plans.proofs.Pairs.{pairs}
 
 -- the count c and the length
@@ -60,29 +62,22 @@ pairs-sections s w =
     ap pairs all ∙ ap (λ m. sectionsFrom m (drop 4 s)) many
 
 -- what opening answers: the plan's strip or its fault
-abbrev planned : List ℕ → DS.Strip
-planned s = record { k = shades s; n = marks s; size = shades s ^ marks s }
-
 module _ (s : List ℕ) where
-  answer : (f : ℕ) → planFault s ≡ f
-      → openedOf s ≡ pickOpened (eqb f 0) (Strip (planned s)) (Refused f)
-  answer f e = ap (λ g. pickOpened (eqb g 0) (Strip (planned s)) (Refused g)) e
-
   pub opened-torn : torn s ≡ true → Refused 7 ≡ openedOf s
-  opened-torn t = sym (answer 7 (rw t))
+  opened-torn t = refused-with (planFault s) (shades s) (marks s) (rw t) (λ z. omega arith)
 
   -- m is the answer of the strip's constructor
   module _ {m : Made} (good : torn s ≡ false) (made : m ≡ madeOf (shades s) (marks s)) where
     pub opened-none : m ≡ None → Refused 1 ≡ openedOf s
-    opened-none f = sym (answer 1 (rw (good, made-none (shades s) (marks s) made f)))
+    opened-none f = refused-with (planFault s) (shades s) (marks s) (rw (good, made-none (shades s) (marks s) made f)) (λ z. omega arith)
 
     -- x is the strip that it made
     module _ {x : DS.Strip} (fine : m ≡ Fine x) where
       admit : admitted (shades s) (marks s) ≡ true
-      admit = let (shaped, letters, n-is) = made-strip (shades s) (marks s) made fine in ap₂ admitted (sym letters) (sym n-is) ∙ shaped .admit
+      admit = made-admits (shades s) (marks s) made fine
 
-      same : planned s ≡ x
-      same = let z : Fine (planned s) ≡ Fine x = sym (rw admit at made) ∙ fine in cc
+      same : stripOf (shades s) (marks s) ≡ x
+      same = made-is (shades s) (marks s) made fine
 
       -- the test of the pairs has top at the strip's size
       pub straight-sections : {b : Bool} → b ≡ straightFrom (marks s) (x .size) 0 (pairs (take (length s - 4) (drop 4 s)))
@@ -90,7 +85,7 @@ module _ (s : List ℕ) where
       straight-sections e = ap (λ y. straightFrom (marks s) (y .size) 0 (sections s)) same ∙ sym (e ∙ ap (straightFrom (marks s) (x .size) 0) (pairs-sections s (whole s good)))
 
       pub opened-strip : straightFrom (marks s) (shades s ^ marks s) 0 (sections s) ≡ true → Strip x ≡ openedOf s
-      opened-strip h = sym (answer 0 (rw (good, admit, h)) ∙ ap Strip same)
+      opened-strip h = passed-with (planFault s) (shades s) (marks s) (rw (good, admit, h)) same
 
       pub opened-crooked : straightFrom (marks s) (shades s ^ marks s) 0 (sections s) ≡ false → Refused 8 ≡ openedOf s
-      opened-crooked h = sym (answer 8 (rw (good, admit, h)))
+      opened-crooked h = refused-with (planFault s) (shades s) (marks s) (rw (good, admit, h)) (λ z. omega arith)

@@ -1,19 +1,19 @@
 -- What opening a plan answers: the strip that it is laid on, or the number of its fault (7, 1, 8).
-use mathlib.Core.Bool.{Bool, true, false}
+use mathlib.Core.Path.{_≡_}
 use mathlib.Core.List.{List}
-use Prim.Native.Nat.{ℕ, _^_}
-use lib.Dec.{eqb}
+use Prim.Native.Nat.{ℕ}
 use Rattle.theory.specs.Plans.{shades, marks, planFault}
-use Rattle.plans.specs.declared.Opened.{Opened}
-use Rattle.plans.specs.declared.Opened.the-variants.{Strip, Refused}
+use Rattle.shape.specs.declared.Strip as DS
+use Rattle.shape.specs.Shapes.{Shaped}
+use Rattle.calls.specs.declared.Checked.{Checked}
+use Rattle.calls.specs.Checks.{checkedBy}
 
-abbrev pub pickOpened : Bool → Opened → Opened → Opened
-pickOpened true a b = a
-pickOpened false a b = b
+abbrev pub openedOf : List ℕ → Checked
+openedOf s = checkedBy (planFault s) (shades s) (marks s)
 
-abbrev pub openedOf : List ℕ → Opened
-openedOf s =
-    pickOpened
-    (eqb (planFault s) 0)
-    (Strip (record { k = shades s; n = marks s; size = shades s ^ marks s }))
-    (Refused (planFault s))
+-- an accepted plan: no fault, and the strip of its k and n
+pub record Accepted (s : List ℕ) (x : DS.Strip) : Type 0 where
+  pub faultless : planFault s ≡ 0
+  pub shaped : Shaped x
+  pub letters : x .k ≡ shades s
+  pub marked : x .n ≡ marks s

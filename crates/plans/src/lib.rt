@@ -4,23 +4,19 @@ ghost use Prim.Native.Nat.{_/_, _^_, _≤_, _<_};
 ghost use lib.ListN.{length};
 ghost use Rattle.theory.specs.Plans.{beFrom, torn, straightFrom, sectionsFrom, sections, sectionCount, planFault, layingFrom, marks, nthS};
 ghost use Rattle.plans.specs.Opened.{openedOf};
+use calls::Checked;
+use calls::refusals;
 use shape::Made;
 use shape::Strip;
 
 // Bytes before the pairs, bytes of a pair, bytes of a number in it, and how many sections there may be.
-pub const HEAD: usize = 4;
+const HEAD: usize = 4;
 
-pub const PAIR: usize = 16;
+const PAIR: usize = 16;
 
-pub const NUMBER: usize = 8;
+const NUMBER: usize = 8;
 
-pub const SECTIONS: u64 = 500;
-
-// An accepted plan's strip, or the number of the plan's fault.
-pub enum Opened {
-    Strip(Strip),
-    Refused(u8),
-}
+const SECTIONS: u64 = 500;
 
 // The number in at most 8 bytes, the highest first.
 fn number(bytes: &[u8]) -> u64
@@ -75,20 +71,20 @@ fn is_straight(n: u64, top: u64, end: u64, pairs: &[u8]) -> bool
 }
 
 // The strip of an accepted plan.
-pub fn open(plan: &[u8]) -> Opened
+pub fn open(plan: &[u8]) -> Checked
     ensures { λ r. ⌜ r ≡ openedOf (now (plan .entry)) ⌝ }
 {
     if is_torn(plan) {
-        return Opened::Refused(refusals::TORN_PLAN);
+        return Checked::Refused(refusals::TORN_PLAN);
     }
     let n = plan[1] as u64;
     let Made::Fine(strip) = Strip::new(plan[0] as u64, n) else {
-        return Opened::Refused(refusals::NO_SUCH_STRIP);
+        return Checked::Refused(refusals::NO_SUCH_STRIP);
     };
     if is_straight(n, strip.size, 0, &plan[HEAD..]) {
-        return Opened::Strip(strip);
+        return Checked::Strip(strip);
     }
-    Opened::Refused(refusals::CROOKED_PLAN)
+    Checked::Refused(refusals::CROOKED_PLAN)
 }
 
 // The number of the section that holds the whole window at a place, plus 1; 0 if none does.

@@ -1,19 +1,18 @@
 -- A word copied to a buffer and lowered to the largest necklace not above it, which has the same rank.
 use mathlib.Core.Path.{_≡_, sym, _∙_, ap, subst}
-use mathlib.Core.Bool.{true}
-use mathlib.Core.List.{List, [], _++_, append-nil}
+use mathlib.Core.List.{List, _++_, append-nil}
 use Prim.Native.Nat.{ℕ, _≤_}
 use native.Mathlib.Omega.{arith}
-use lib.ListN.{length, take, drop, drop-of-length-le}
+use lib.ListN.{length, take, drop-of-length-le}
 use lib.Seq.{length-take-le}
 use Rattle.shape.specs.declared.Strip as DS
 use Rattle.shape.specs.Shapes.{WordOn}
 use Rattle.shape.proofs.Limits.{limits}
 use Rattle.buffers.specs.Buffers.{over}
-use Rattle.words.specs.Moves.{Lettered}
+use Rattle.lyndon.specs.Letters.{Lettered}
 use Rattle.theory.specs.Words.{rank}
 use Rattle.theory.specs.Floors.{necklaceUpTo}
-use Rattle.theory.proofs.Lyndon.{Prenecklace}
+use Rattle.theory.specs.Prenecklaces.{Prenecklace}
 use Rattle.theory.proofs.Necklaces.{smallest-pre}
 use Rattle.theory.proofs.Floors.{floor-is, floor-rank}
 

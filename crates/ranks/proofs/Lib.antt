@@ -1,8 +1,4 @@
--- Laws of ranks and of the search for a word.
+-- Laws of ranks and counts.
 pub mod Shapes
 pub mod Quotients
 pub mod Floored
-pub mod Goals
-pub mod Tries
-pub mod Searches
-pub mod Fills

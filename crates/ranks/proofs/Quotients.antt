@@ -1,6 +1,5 @@
 -- The signed sum is n times the number looked for: its cast to an unsigned number, and the quotient.
-use mathlib.Core.Path.{_≡_, refl, sym, _∙_, ap, ap₂}
-use mathlib.Core.Bool.{true}
+use mathlib.Core.Path.{_≡_, refl, sym, _∙_, ap}
 use mathlib.Core.List.{List, [], _∷_}
 use lib.IntN.{ℤ, pos, natAbs}
 use lib.Signed.{nonNeg}
@@ -11,15 +10,15 @@ use native.Mathlib.Nat.{mul-div-right}
 use mir.Syntax.{w64}
 use mir.Val.{Fits, SFits, toZ, ofZ}
 use mir.ValLaws.{toZ-ofZ}
-use lib.ListN.{length, getD, take}
+use lib.ListN.{length, getD}
 use Rattle.theory.specs.Words.{rank, howMany}
 use Rattle.theory.specs.Lists.{In, here, there}
-use Rattle.theory.specs.Sums.{cs, mobius, scaled, plus, divisors, running, rankTerm, countTerm}
+use Rattle.theory.specs.Sums.{mobius, scaled, plus, divisors, running, rankTerm, countTerm}
 use Rattle.theory.proofs.Divisors.{divisors-in, divisors-divide}
-use Rattle.theory.proofs.Lyndon.{Prenecklace}
+use Rattle.theory.specs.Prenecklaces.{Prenecklace}
 use Rattle.theory.proofs.BySum.{by-pre, count-sum}
-use Rattle.paths.specs.Tables.{Counted, Sized}
-use Rattle.sums.specs.Summands.{Powers}
+use Rattle.automaton.specs.Tables.{Sized}
+use Rattle.moebius.specs.Summands.{Powers}
 
 running-ext : (f g : ℕ → ℤ) (a : ℤ) (ds : List ℕ) → ((d : ℕ) → In d ds → f d ≡ g d) → running f a ds ≡ running g a ds
 running-ext f g a [] h = refl

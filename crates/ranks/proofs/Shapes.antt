@@ -1,17 +1,12 @@
 -- What is known of an admitted strip and of a word on it, as the path counts and the sums ask for it.
-use mathlib.Core.Path.{_≡_, sym, _∙_, ap, subst}
-use mathlib.Core.Bool.{true}
+use mathlib.Core.Path.{sym, subst}
 use mathlib.Core.List.{List}
 use Prim.Native.Nat.{ℕ, _^_, _≤_}
 use native.Mathlib.Omega.{arith}
-use lib.Dec.{leb}
-use lib.ListN.{length, getD}
-use borrow.Author.Tests.{leb-true}
 use Rattle.shape.specs.declared.Strip as DS
-use Rattle.theory.proofs.Base.{and-l, and-r}
-use Rattle.paths.specs.Tables.{Counted, Sized}
-use Rattle.sums.specs.Summands.{Summable, Powers}
-use Rattle.shape.specs.Shapes.{Shaped, WordOn}
+use Rattle.automaton.specs.Tables.{Counted, Sized}
+use Rattle.moebius.specs.Summands.{Summable, Powers}
+use Rattle.shape.specs.Shapes.{WordOn}
 use Rattle.shape.proofs.Limits.{Limits, limits}
 
 pub counted : {s : DS.Strip} {w : List ℕ} → WordOn s w → Counted (s .k) w

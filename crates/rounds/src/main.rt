@@ -26,7 +26,7 @@ fn end() {
 // The mark that mark_at tells for a place.
 fn mark(k: u64, n: u64, place: u64) -> u8 {
     let mut tray = [255u8; 8];
-    strip::mark_at(k, n, place, &mut tray);
+    marks::mark_at(k, n, place, &mut tray);
     tray[7]
 }
 
@@ -61,7 +61,7 @@ fn walk(k: u64, n: u64, place: u64, count: u64) {
 // 80 marks, printed.
 fn marks(k: u64, n: u64, place: u64) {
     let mut tray = [255u8; 80];
-    strip::print_marks(k, n, place, 80, &mut tray);
+    marks::print_marks(k, n, place, 80, &mut tray);
     let mut i = 0;
     while i < 80 {
         letter(tray[i]);

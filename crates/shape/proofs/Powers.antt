@@ -1,12 +1,10 @@
 -- A power from the power with half the exponent, and what passes the limit 2^60.
-use mathlib.Core.Path.{_≡_, refl, sym, _∙_, ap, ap₂, subst}
-use mathlib.Core.Bool.{true, false}
+use mathlib.Core.Path.{_≡_, sym, _∙_, ap, subst}
 use Prim.Native.Nat.{ℕ, zero, suc, _+_, _*_, _/_, _%_, _^_, _≤_, _<_}
 use native.Mathlib.Omega.{arith}
 use native.Mathlib.Nat.{le-refl, lt-of-lt-of-le, div-add-mod', div-le-self, pow-zero, pow-suc, pow-le-pow-right, mul-le-mul, mul-lt-mul-of-pos-left, le-div-iff-mul-le, div-lt-iff-lt-mul, mul-zero, mul-comm}
 use native.Mathlib.Decide.{decLe}
 use lib.Pow.{pow-add}
-use lib.Dec.{leb}
 use borrow.Author.Tests.{le-leb, lt-leb}
 use Rattle.shape.specs.declared.Power.{Power}
 use Rattle.shape.specs.declared.Power.the-variants.{Is, Large}

@@ -23,13 +23,13 @@ pub enum Made {
 const ROOT: u64 = 1 << 30;
 
 // k^n, by the power with half the exponent; refuses before a product passes Strip::PLACES.
-pub fn raise(k: u64, n: u64) -> Power
+fn pow(k: u64, n: u64) -> Power
     ensures { λ r. ⌜ r ≡ powerOf k n ⌝ }
 {
     if n == 0 {
         return Power::Is(1);
     }
-    let Power::Is(half) = raise(k, n / 2) else {
+    let Power::Is(half) = pow(k, n / 2) else {
         return Power::Large;
     };
     if ROOT < half {
@@ -71,7 +71,7 @@ impl Strip {
         if Self::MARKS < n {
             return Made::Refused;
         }
-        let Power::Is(size) = raise(k, n) else {
+        let Power::Is(size) = pow(k, n) else {
             return Made::Refused;
         };
         Made::Fine(Strip { k, n, size })

@@ -1,4 +1,4 @@
 -- Laws of texts.
 pub mod Decimals
+pub mod Digits
 pub mod Adding
-pub mod Lines

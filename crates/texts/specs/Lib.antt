@@ -1,3 +1,2 @@
--- Numbers and letters as text, and the text of a plan's listing.
+-- Numbers and letters as text.
 pub mod Texts
-pub mod Listings

@@ -8,17 +8,20 @@ ghost use mathlib.Core.List.{[], _∷_, _++_};
 ghost use Rattle.theory.specs.Words.{marksOk};
 ghost use Rattle.texts.specs.Texts.{decimal, glyph, glyphs, Adds};
 
+// What the digit of a letter from 10 on is more than the letter: the digit of 10 is a.
+const TENS: u8 = b'a' - 10;
+
 // A number in decimal: its higher digits, then the last.
-pub fn put_decimal(v: u64, out: &mut [u8], at: usize) -> usize
+fn put_decimal(v: u64, out: &mut [u8], at: usize) -> usize
     requires { ⌜ at + length (decimal v) ≤ length (now out) ⌝ }
     ensures { λ r. ⌜ Adds (now (out .entry)) at (decimal v) (now (out .exit)) r ⌝ }
 {
     if v < 10 {
-        out[at] = 48 + v as u8;
+        out[at] = b'0' + v as u8;
         return at + 1;
     }
     let end = put_decimal(v / 10, out, at);
-    out[end] = 48 + (v % 10) as u8;
+    out[end] = b'0' + (v % 10) as u8;
     end + 1
 }
 
@@ -28,9 +31,9 @@ fn digit(letter: u8) -> u8
     ensures { λ r. ⌜ r ≡ glyph letter ⌝ }
 {
     if letter < 10 {
-        return 48 + letter;
+        return b'0' + letter;
     }
-    87 + letter
+    TENS + letter
 }
 
 // A word, a digit for each letter.

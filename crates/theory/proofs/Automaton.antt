@@ -1,7 +1,7 @@
 -- Document 004's automaton (section 4): runs that do not accept, words that are accepted at once, and Facts 11 and 12:
 -- x is in CS(w) just when x x is accepted. All of it for a prenecklace w: every prefix of a necklace is one.
 use mathlib.Core.Path.{_≡_, refl, sym, _∙_, ap, ap₂, subst}
-use mathlib.Core.Bool.{Bool, true, false}
+use mathlib.Core.Bool.{true}
 use mathlib.Core.List.{List, [], _∷_, _++_, append-assoc, append-nil}
 use Prim.Native.Nat.{ℕ, _≤_, _<_}
 use native.Mathlib.Omega.{arith}
@@ -11,8 +11,8 @@ use borrow.Author.Tests.{lt-ltb, le-ltb, eq-eqb, ne-eqb}
 use Rattle.theory.specs.Words.{same, upTo, smallest}
 use Rattle.theory.specs.Automaton.{moved, run}
 use Rattle.theory.proofs.Base.{less, equal, more, cmp, nil-of, levi, longer, shorter, same-test}
-use Rattle.theory.proofs.Order.{Le, empty, sooner, further, Cut, differ, agree, same-eq, eq-same, le-append, le-trans, le-upTo, upTo-le, cut-append}
-use Rattle.theory.proofs.Lyndon.{Prenecklace}
+use Rattle.theory.proofs.Order.{Le, empty, sooner, further, same-eq, eq-same, le-append, le-trans, le-upTo, upTo-le, cut-append}
+use Rattle.theory.specs.Prenecklaces.{Cut, differ, agree, Prenecklace}
 use Rattle.theory.proofs.Powers.{rot}
 use Rattle.theory.proofs.Necklaces.{smallest-rot, smallest-le, smallest-length}
 

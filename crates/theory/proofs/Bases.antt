@@ -2,31 +2,28 @@
 -- length |w| does not exceed w. For a prenecklace w and d dividing |w|, CS of the first d letters has as many words as
 -- those of the list whose length divides d have letters; and the rank of w is the number of those of length |w|.
 use mathlib.Core.Path.{_≡_, refl, sym, _∙_, ap, subst, subst₂}
-use mathlib.Core.Bool.{Bool, true, _&&_, false≢true}
-use mathlib.Core.List.{List, [], _∷_}
+use mathlib.Core.Bool.{Bool, true, _&&_}
+use mathlib.Core.List.{List}
 use mathlib.Core.Logic.{inl, inr}
-use Prim.Native.Nat.{ℕ, zero, suc, _-_, _^_, _≤_}
+use Prim.Native.Nat.{ℕ, suc, _-_, _≤_}
 use native.Mathlib.Omega.{arith}
 use lib.Dec.{eqb}
-use lib.ListN.{length, take, drop, replicate, take-append-drop, length-replicate}
+use lib.ListN.{length, take, drop, take-append-drop}
 use lib.Seq.{length-take-le}
 use borrow.Author.Tests.{eqb-true, eq-eqb}
-use Rattle.theory.specs.Words.{when, upTo, smallest, repeated, root, isLyndon, marksOk, allWords, lyndons, howMany, keep, rank}
+use Rattle.theory.specs.Words.{when, upTo, smallest, repeated, root, isLyndon, marksOk, allWords, lyndons, keep, rank, powerTo}
 use Rattle.theory.specs.Lists.{In, Once}
 use Rattle.theory.specs.Rings.{divides}
 use Rattle.theory.specs.Strips.{divisorOf, stripWords}
 use Rattle.theory.specs.Sums.{cs}
-use Rattle.theory.specs.Theorems.{powerTo}
-use Rattle.theory.proofs.Base.{test, same-test}
-use Rattle.theory.proofs.Order.{Le, empty, Cut, Prefix, prefix, lt-le, le-cases, le-not-lt, not-lt, cut-lt, cut-append, lt-cut, le-upTo, upTo-le, prefix-trans, cut-on}
-use Rattle.theory.proofs.Lists.{keep-in, in-keep, keep-all, keep-once, ascend-once}
+use Rattle.theory.specs.Prenecklaces.{Cut, Prenecklace}
+use Rattle.theory.proofs.Base.{same-test}
+use Rattle.theory.proofs.Order.{Le, Prefix, prefix, lt-le, le-cases, le-not-lt, not-lt, cut-lt, lt-cut, le-upTo, upTo-le, prefix-trans, cut-on}
+use Rattle.theory.proofs.Lists.{keep-in, in-keep, keep-once, ascend-once}
 use Rattle.theory.proofs.Counts.{sum, sum-when, once-sum, once-eq, keep-same}
-use Rattle.theory.proofs.Letters.{marks-head}
-use Rattle.theory.proofs.Lyndon.{Prenecklace, Necklace, necklace-pre}
-use Rattle.theory.proofs.Listed.{all-words, all-count, lyndon-words, lyndon-ascend, ring-ascend, strip-words}
+use Rattle.theory.proofs.Listed.{all-words, lyndon-words, lyndon-ascend, ring-ascend, strip-words}
 use Rattle.theory.proofs.Powers.{repeated-length, extends-power, extends-one, root-divides}
-use Rattle.theory.proofs.Necklaces.{pre-power, smallest-necklace, smallest-rot, smallest-length}
-use Rattle.theory.proofs.Tops.{one-less, no-higher}
+use Rattle.theory.proofs.Necklaces.{pre-power}
 use Rattle.theory.proofs.Rotations.{Fits, fits, power-is, power-length, power-self, power-begins, count-bases}
 use Rattle.theory.proofs.Divisors.{divides-some, divides-le, divides-trans, divisors-allowed}
 

@@ -4,25 +4,23 @@ use mathlib.Core.Path.{_≡_, refl, sym, _∙_, ap, ap₂}
 use mathlib.Core.Bool.{Bool, true, false}
 use mathlib.Core.List.{List}
 use lib.IntN.{pos}
-use Prim.Native.Nat.{ℕ, zero, suc, _+_, _*_, _/_, _%_, _^_, _≤_}
+use Prim.Native.Nat.{ℕ, _+_, _*_, _/_, _^_, _≤_}
 use native.Mathlib.Omega.{arith}
 use native.Mathlib.Nat.{mul-comm}
 use lib.Dec.{eqb}
 use lib.ListN.{length, take}
-use borrow.Author.Tests.{le-leb}
 use Rattle.theory.specs.Words.{pick, when, upTo, smallest, allWords, lyndons, howMany, keep, rank}
-use Rattle.theory.specs.Lists.{In, here, there}
+use Rattle.theory.specs.Lists.{In}
 use Rattle.theory.specs.Rings.{divides}
-use Rattle.theory.specs.Sums.{cs, mobius, less, scaled, By-sum, countFrom, divisors, running, rankTerm, countTerm}
-use Rattle.theory.proofs.Base.{and-in}
+use Rattle.theory.specs.Sums.{cs, mobius, less, scaled, By-sum, divisors, running, rankTerm, countTerm}
 use Rattle.theory.proofs.Order.{same-eq}
-use Rattle.theory.proofs.Lists.{in-nil, keep-in, keep-all}
+use Rattle.theory.proofs.Lists.{keep-all}
 use Rattle.theory.proofs.Counts.{sum, sum-ext, sum-plus, sum-times, sum-const, sum-keep, sum-swap}
 use Rattle.theory.proofs.Listed.{all-count}
 use Rattle.theory.proofs.Running.{less-pos, running-less, plusOne, minusOne, scaled-is, share, sum-running, mobius-sum, any-order, rank-small, count-small}
 use Rattle.theory.proofs.Bases.{bases, base-in, bases-front, bases-whole, upBases, cs-bases, rank-bases}
 use Rattle.theory.proofs.Divisors.{divisors-divide}
-use Rattle.theory.proofs.Lyndon.{Prenecklace}
+use Rattle.theory.specs.Prenecklaces.{Prenecklace}
 use Rattle.theory.proofs.Necklaces.{smallest-pre}
 use Rattle.theory.specs.Theorems.{Summed}
 

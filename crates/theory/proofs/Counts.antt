@@ -3,7 +3,7 @@ use mathlib.Core.Path.{_≡_, refl, sym, _∙_, ap, subst}
 use mathlib.Core.Bool.{Bool, true, false, not}
 use mathlib.Core.List.{List, [], _∷_, _++_}
 use mathlib.Core.Logic.{_⊎_, inl, inr, _≢_}
-use Prim.Native.Nat.{ℕ, zero, suc, _+_, _*_, _≤_}
+use Prim.Native.Nat.{ℕ, suc, _+_, _*_, _≤_}
 use native.Mathlib.Omega.{arith}
 use native.Mathlib.Nat.{le-antisymm}
 use lib.ListN.{length, length-append}
@@ -11,7 +11,7 @@ use Rattle.theory.specs.Words.{pick, when, keep}
 use Rattle.theory.specs.Lists.{In, here, there, Once}
 use Rattle.theory.specs.Rings.{joined}
 use Rattle.theory.proofs.Base.{test}
-use Rattle.theory.proofs.Lists.{Found, found, in-split, in-rest, each, gather}
+use Rattle.theory.proofs.Lists.{found, in-split, in-rest, each, gather}
 
 module _ {A : Type 0} where
   -- sums of numbers over a list

@@ -3,15 +3,15 @@ use mathlib.Core.Path.{_≡_, refl, sym, _∙_, ap, ap₂, subst}
 use mathlib.Core.Bool.{Bool, true, false, false≢true}
 use mathlib.Core.List.{List, [], _∷_}
 use mathlib.Core.Logic.{inl, inr}
-use Prim.Native.Nat.{ℕ, zero, suc, _+_, _-_, _^_, _≤_, _<_}
+use Prim.Native.Nat.{ℕ, zero, suc, _+_, _-_, _≤_, _<_}
 use native.Mathlib.Omega.{arith}
-use native.Mathlib.Nat.{add-zero, mod-self, le-of-dvd, dvd-of-mod-eq-zero}
+use native.Mathlib.Nat.{add-zero}
 use lib.Dec.{ltb, leb}
 use lib.ListN.{length, getD}
-use borrow.Author.Tests.{ltb-true, ltb-false, leb-true, eqb-true, lt-ltb, le-leb, eq-eqb}
+use borrow.Author.Tests.{ltb-true, ltb-false, leb-true, lt-ltb}
 use Rattle.theory.specs.Words.{pick, below, upTo, isLyndon, marksOk}
 use Rattle.theory.specs.Lists.{In}
-use Rattle.theory.specs.Rings.{lyndonsUp, divides, Allowed, ringWords, ring, modulo, letterOn, lettersOn, Cursor, cursor, goodOn, beforeW, positionOn, atFrom, firstAfter, passedBy, stepOn, readOn}
+use Rattle.theory.specs.Rings.{lyndonsUp, Allowed, ringWords, ring, modulo, letterOn, lettersOn, Cursor, cursor, goodOn, beforeW, positionOn, atFrom, firstAfter, passedBy, stepOn, readOn}
 use Rattle.theory.specs.Strips.{divisorOf, stripWords, strip, placeIn, cursorAt, stepOf}
 use Rattle.theory.specs.Theorems.{Cursors-on, Cursors}
 use Rattle.theory.proofs.Base.{test, and-l, and-r, and-in}

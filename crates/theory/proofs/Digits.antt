@@ -1,23 +1,19 @@
 -- A word found letter by letter, seen from the word: which letters keep a prenecklace one, and that p c z z .. is not below a word that
 -- begins with p just when c is not below its next letter. So a count that tells whether a word is reached tells each letter of it.
-use mathlib.Core.Path.{_≡_, refl, sym, _∙_, ap, subst}
-use mathlib.Core.Bool.{Bool, true, false}
-use mathlib.Core.List.{List, [], _∷_, _++_, append-assoc, append-nil}
-use mathlib.Core.Logic.{_⊎_, inl, inr, _↔_}
-use Prim.Native.Nat.{ℕ, zero, suc, _+_, _-_, _^_, _≤_, _<_}
+use mathlib.Core.Path.{_≡_, sym, _∙_, ap, subst}
+use mathlib.Core.Bool.{true}
+use mathlib.Core.List.{List, [], _∷_, _++_}
+use mathlib.Core.Logic.{_↔_}
+use Prim.Native.Nat.{ℕ, zero, suc, _+_, _-_, _≤_}
 use native.Mathlib.Omega.{arith}
-use lib.Dec.{leb, ltb}
-use lib.ListN.{length, replicate, length-append, length-replicate}
-use borrow.Author.Tests.{leb-true, le-leb, ltb-true, lt-ltb}
+use lib.ListN.{length, replicate, length-append}
 use Rattle.theory.specs.Words.{howMany, rank, wordOf, marksOk, isLyndon}
-use Rattle.theory.specs.Sums.{cs}
-use Rattle.theory.specs.Search.{leastWord}
-use Rattle.theory.proofs.Base.{less, equal, more, cmp, Levi, levi, longer, shorter}
-use Rattle.theory.proofs.Order.{Lt, Le, sooner, further, Cut, differ, agree, le-prefix, le-not-lt, not-lt, lt-le, cut-lt, cut-at-letter, cut-append, cut-irrefl}
+use Rattle.theory.proofs.Base.{less, equal, more, cmp, levi, longer, shorter}
+use Rattle.theory.proofs.Order.{Le, sooner, further, le-prefix, le-not-lt, not-lt, cut-lt, cut-at-letter}
 use Rattle.theory.proofs.Letters.{marks-head, marks-tail}
-use Rattle.theory.proofs.Lyndon.{Prenecklace}
+use Rattle.theory.specs.Prenecklaces.{Cut, differ, agree, Prenecklace}
 use Rattle.theory.proofs.Ranks.{undone}
-use Rattle.theory.proofs.Levels.{rank-mono, rank-strict, cs-mono}
+use Rattle.theory.proofs.Levels.{rank-mono, rank-strict}
 use Rattle.theory.proofs.Tops.{no-higher, replicate-right}
 
 -- letters z after a prenecklace: a suffix t z .. is cut below w z .. only if t is below w

@@ -10,11 +10,11 @@ use native.Mathlib.Nat.{mul-comm}
 use lib.Dec.{eqb}
 use lib.ListN.{length}
 use borrow.Author.Tests.{eqb-true, eq-eqb}
-use Rattle.theory.specs.Words.{upTo, smallest, allWords, lyndons, keep}
+use Rattle.theory.specs.Words.{upTo, smallest, allWords, lyndons, keep, powerTo}
 use Rattle.theory.specs.Lists.{In, Ascending}
 use Rattle.theory.specs.Rings.{Allowed, ringWords, beforeW}
 use Rattle.theory.specs.Strips.{divisorOf}
-use Rattle.theory.specs.Theorems.{powerTo, Ends, Strip-ends, Short-ends}
+use Rattle.theory.specs.Theorems.{Ends, Strip-ends, Short-ends}
 use Rattle.theory.proofs.Order.{Le, le-upTo, upTo-le, lt-le, le-cases, eq-le, not-lt, le-not-lt}
 use Rattle.theory.proofs.Lists.{found, in-split, keep-in, in-keep, keep-once, ascend-once}
 use Rattle.theory.proofs.Counts.{sum, sum-append, sum-ext, sum-const, keep-same, once-eq, joined-length}

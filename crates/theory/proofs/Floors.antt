@@ -1,28 +1,28 @@
 -- The largest necklace not above a word (document 004, Lemma 5): it exists, it counts as the word does, and lowering one letter finds it.
 use mathlib.Core.Path.{_≡_, refl, sym, _∙_, ap, ap₂, subst, subst₂}
 use mathlib.Core.Bool.{Bool, true, false, _&&_, false≢true}
-use mathlib.Core.List.{List, [], _∷_, _++_, append-assoc, append-nil, List-discrete, head-eq-of-cons-eq}
+use mathlib.Core.List.{List, [], _∷_, _++_, append-assoc, append-nil, head-eq-of-cons-eq}
 use mathlib.Core.Logic.{_⊎_, inl, inr, _≢_}
 use Prim.Native.Nat.{ℕ, zero, suc, _+_, _-_, _≤_, _<_}
 use native.Mathlib.Omega.{arith}
-use native.Mathlib.Decide.{ℕ-discrete}
 use lib.Dec.{ltb}
 use lib.ListN.{length, getD, take, drop, replicate, length-append, length-replicate, length-drop}
-use lib.Seq.{split-at, length-take-le, take-append-seam, getD-append-seam}
-use borrow.Author.Tests.{ltb-true, ltb-false, lt-ltb}
-use Rattle.theory.specs.Words.{pick, same, below, upTo, isLyndon, smallest, keep, allWords, lyndons, rank, marksOk}
+use lib.Seq.{split-at, length-take-le}
+use borrow.Author.Tests.{ltb-true, lt-ltb}
+use Rattle.theory.specs.Words.{pick, below, upTo, isLyndon, smallest, keep, allWords, lyndons, rank, marksOk}
 use Rattle.theory.specs.Lists.{In, here, there, Ascending}
 use Rattle.theory.specs.Sums.{cs}
 use Rattle.theory.specs.Floors.{isNecklace, lastOf, necklaceUpTo, necklaceBelow, loweredAt, floorFrom}
 use Rattle.theory.specs.Theorems.{Floors}
-use Rattle.theory.proofs.Base.{test, and-l, and-r, and-in, less, equal, more, Cmp, cmp, Split, upto, over, split, nil-of, split-same, Levi, levi, longer, shorter}
-use Rattle.theory.proofs.Order.{Lt, Le, empty, further, sooner, Cut, same-eq, eq-same, ne-same, below-lt, lt-below, upTo-le, le-upTo, lt-le, le-refl, le-cases, le-trans, le-antisym, le-lt-trans, lt-le-trans, le-not-lt, lt-irrefl, not-lt, eq-le, le-prefix, lt-cut, cut-lt, cut-append, cut-at-letter, cut-prefix, Decided, decided, decide, differ, agree}
+use Rattle.theory.specs.Prenecklaces.{Cut, differ, Prenecklace}
+use Rattle.theory.proofs.Base.{test, and-l, and-r, and-in, less, equal, more, cmp, Split, upto, over, split, split-same, levi, longer, shorter}
+use Rattle.theory.proofs.Order.{Le, empty, further, sooner, same-eq, eq-same, ne-same, below-lt, lt-below, upTo-le, le-upTo, lt-le, le-refl, le-trans, le-antisym, not-lt, eq-le, le-prefix, lt-cut, cut-lt, cut-at-letter, decided, decide}
 use Rattle.theory.proofs.Lists.{keep-in, in-keep, keep-ascend, in-nil}
 use Rattle.theory.proofs.Counts.{keep-same}
 use Rattle.theory.proofs.Letters.{marks-left, marks-right, marks-head, marks-tail, marks-append, marks-cons, marks-replicate, marks-letter}
 use Rattle.theory.proofs.Listed.{all-words, all-ascend, lyndon-words}
-use Rattle.theory.proofs.Lyndon.{Prenecklace, Lyndon, Necklace, lyndon-in, necklace-pre, pre-prefix, raise-last, append-top, fill-top}
-use Rattle.theory.proofs.Powers.{rot, rot-refl, rot-length}
+use Rattle.theory.proofs.Lyndon.{Lyndon, Necklace, lyndon-in, necklace-pre, pre-prefix, raise-last, append-top, fill-top}
+use Rattle.theory.proofs.Powers.{rot-refl}
 use Rattle.theory.proofs.Necklaces.{power-necklace, smallest-is, smallest-necklace, smallest-marks, smallest-length}
 use Rattle.theory.proofs.Tops.{Lead, all-top, lead, lead-of, no-higher, replicate-left, replicate-right, one-less}
 

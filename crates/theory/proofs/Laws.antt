@@ -2,7 +2,7 @@
 use mathlib.Core.Path.{_≡_, refl, sym, _∙_, ap, subst}
 use mathlib.Core.Bool.{true}
 use mathlib.Core.List.{List, [], _∷_, _++_, append-assoc, head-eq-of-cons-eq}
-use mathlib.Core.Logic.{inl, inr, _↔_, _≢_}
+use mathlib.Core.Logic.{_↔_, _≢_}
 use Prim.Native.Nat.{ℕ, zero, suc, _-_, _≤_, _<_}
 use native.Mathlib.Omega.{arith}
 use lib.ListN.{length, take, drop, length-append, take-append-drop}
@@ -11,9 +11,10 @@ use borrow.Author.Tests.{ltb-true, lt-ltb}
 use Rattle.theory.specs.Words.{below, turned, isLyndon, smallest, repeated, root, marksOk}
 use Rattle.theory.specs.Steps.{extension, period}
 use Rattle.theory.specs.Theorems.{Rotated, Lyndon-laws}
+use Rattle.theory.specs.Prenecklaces.{Prenecklace}
 use Rattle.theory.proofs.Base.{and-l, and-in, upto, over, split}
 use Rattle.theory.proofs.Order.{lt-below, below-lt, cut-lt, lt-cut}
-use Rattle.theory.proofs.Lyndon.{Prenecklace, Lyndon, turned-parts, lyndon-some, lyndon-in, lyndon-out, lyndon-pre, pre-prefix, necklace-pre, raise-last}
+use Rattle.theory.proofs.Lyndon.{Lyndon, turned-parts, lyndon-some, lyndon-in, lyndon-out, lyndon-pre, pre-prefix, necklace-pre, raise-last}
 use Rattle.theory.proofs.Powers.{repeated-snoc, Rot, rot, rot-sym, rot-length, turned-rot, turn, power-turn, extends-power, extends-extension}
 use Rattle.theory.proofs.Necklaces.{product-lyndon, lyndon-extends-pre, sesquipower, pre-extends, power-necklace, power-one, smallest-rot, smallest-necklace, smallest-is, base, base-of, turn-once}
 use Rattle.theory.proofs.Letters.{marks-right, marks-append, marks-repeated}

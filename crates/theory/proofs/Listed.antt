@@ -1,25 +1,20 @@
 -- The lists of words: what they hold and that they ascend. Those of Lyndon words are kept from the lists of all words.
-use mathlib.Core.Path.{_≡_, refl, sym, _∙_}
-use mathlib.Core.Bool.{Bool, true, _&&_}
+use mathlib.Core.Path.{_≡_}
+use mathlib.Core.Bool.{Bool, true}
 use mathlib.Core.List.{List}
 use mathlib.Core.Logic.{_↔_}
-use Prim.Native.Nat.{ℕ, suc, _-_, _%_, _≤_, _<_}
-use native.Mathlib.Omega.{arith}
-use native.Mathlib.Nat.{mod-eq-of-lt, mod-self}
-use lib.Dec.{eqb, leb}
+use Prim.Native.Nat.{ℕ, _-_, _≤_}
 use lib.ListN.{length}
-use borrow.Author.Tests.{le-leb, eq-eqb, eqb-true}
-use Rattle.theory.specs.Words.{allWords, lyndons, isLyndon, lyndonFrom, marksOk}
+use Rattle.theory.specs.Words.{allWords, lyndons, isLyndon, marksOk}
 use Rattle.theory.specs.Lists.{In, Ascending}
-use Rattle.theory.specs.Rings.{upWords, lyndonsUp, divides, Allowed, ringWords}
+use Rattle.theory.specs.Rings.{upWords, lyndonsUp, divides, ringWords}
 use Rattle.theory.specs.Strips.{divisorOf, stripWords}
 use Rattle.theory.specs.Theorems.{Listed}
-use Rattle.theory.proofs.Base.{and-r, and-in, Split, upto, over, split}
 use Rattle.theory.proofs.Lists.{keep-in, in-keep, keep-ascend}
 use Rattle.theory.proofs.Lyndon.{lyndon-some}
 pub use Rattle.theory.proofs.AllWords.{all-words, all-ascend, all-count}
 pub use Rattle.theory.proofs.UpWords.{up-words, up-ascend}
-use Rattle.theory.proofs.Divisors.{divides-le, divisors-allowed}
+use Rattle.theory.proofs.Divisors.{divides-le}
 
 pub lyndon-words : (k n : ℕ) (w : List ℕ) → In w (lyndons k n) ↔ ((length w ≡ n) × (marksOk k w ≡ true) × (isLyndon w ≡ true))
 lyndon-words k n w = (

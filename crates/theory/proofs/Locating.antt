@@ -9,13 +9,12 @@ use native.Mathlib.Omega.{arith}
 use native.Mathlib.Nat.{div-one}
 use lib.ListN.{length, take, drop, replicate, length-append, length-replicate, length-drop, take-append-drop}
 use lib.Seq.{take-append-seam}
-use Rattle.theory.specs.Words.{below, smallest, turned, repeated, root, isLyndon, marksOk}
+use Rattle.theory.specs.Words.{below, smallest, turned, repeated, root, isLyndon, marksOk, powerTo}
 use Rattle.theory.specs.Lists.{In, here, there, Ascending}
-use Rattle.theory.specs.Rings.{divides, beforeW, modulo, findOn}
+use Rattle.theory.specs.Rings.{divides, beforeW, modulo, placeOn}
 use Rattle.theory.specs.Strips.{strip, stripWords, placeOf, divisorOf}
 use Rattle.theory.specs.Sums.{cs}
 use Rattle.theory.specs.Floors.{necklaceBelow}
-use Rattle.theory.specs.Theorems.{powerTo, placeOn}
 use Rattle.theory.proofs.Base.{upto, over, split}
 use Rattle.theory.proofs.Order.{Lt, now, later, Le, Prefix, prefix, lt-below, below-lt, lt-le, le-cases, le-lt-trans, lt-le-trans, le-not-lt, not-lt, eq-le, le-prefix}
 use Rattle.theory.proofs.Lists.{found, in-split, in-nil, in-append-left, in-append-right, in-append-cases, ascend-before}

@@ -1,22 +1,18 @@
 -- Lyndon words and prenecklaces (document 003, section 1.4): Proposition 7, Lemma 2, Proposition 8, and how z may be appended.
 use mathlib.Core.Path.{_≡_, refl, sym, _∙_, ap, subst}
-use mathlib.Core.Bool.{Bool, true, false, _&&_, false≢true}
+use mathlib.Core.Bool.{true}
 use mathlib.Core.List.{List, [], _∷_, _++_, append-assoc, append-nil}
-use mathlib.Core.Logic.{_⊎_, inl, inr, _↔_}
 use Prim.Native.Nat.{ℕ, zero, suc, _+_, _-_, _≤_, _<_}
 use native.Mathlib.Omega.{arith}
 use native.Mathlib.Nat.{lt-of-le-of-lt}
 use lib.Dec.{leb}
-use lib.ListN.{length, take, drop, replicate, length-append, length-replicate, take-append-drop}
-use lib.Seq.{take-append-seam, drop-append-seam, length-take-le}
+use lib.ListN.{length, replicate, length-append}
+use lib.Seq.{take-append-seam, drop-append-seam}
 use borrow.Author.Tests.{leb-true, le-leb}
 use Rattle.theory.specs.Words.{below, turned, lyndonFrom, isLyndon}
-use Rattle.theory.proofs.Base.{test, and-l, and-r, and-in, Cmp, less, equal, more, cmp, Split, upto, over, split, nil-of, Levi, levi, longer, shorter, split-same, unsnoc, Parts, parts, cut-at}
-use Rattle.theory.proofs.Order.{Lt, Le, Cut, differ, agree, Prefix, prefix, lt-below, below-lt, lt-irrefl, lt-asym, lt-le, lt-le-trans, le-not-lt, lt-prefix, lt-unprefix, cut-lt, cut-irrefl, cut-asym, cut-append, cut-prefix, cut-shorten, lt-cut, cut-or, Three, cut-below, cut-above, begins, cmp3, cut-not-prefix, cut-at-letter}
-
--- no suffix is cut below the word: equivalently, a prefix of a power of a Lyndon word
-abbrev pub Prenecklace : List ℕ → Type 0
-Prenecklace w = (u v : List ℕ) → w ≡ u ++ v → ¬ Cut v w
+use Rattle.theory.specs.Prenecklaces.{Cut, differ, agree, Prenecklace}
+use Rattle.theory.proofs.Base.{and-l, and-r, and-in, less, equal, more, cmp, upto, over, split, levi, longer, shorter, split-same, unsnoc, parts, cut-at}
+use Rattle.theory.proofs.Order.{Lt, Le, prefix, lt-below, below-lt, lt-irrefl, lt-asym, lt-le, lt-le-trans, le-not-lt, lt-unprefix, cut-lt, cut-irrefl, cut-asym, cut-append, lt-cut, cut-below, cut-above, begins, cmp3}
 
 -- each proper suffix is above the word, decided by a letter
 pub record Lyndon (w : List ℕ) : Type 0 where

@@ -1,7 +1,7 @@
 -- Möbius values: a square factor and the number of primes under one more prime, and the sum over the divisors of a number: as many
 -- values 1 as −1, but one more for the number 1. A prime p of n put in or taken out pairs the divisors of n that have no square factor.
 use mathlib.Core.Path.{_≡_, refl, sym, _∙_, ap, ap₂, subst}
-use mathlib.Core.Bool.{Bool, true, false, _&&_, _||_, not, false≢true, true≢false}
+use mathlib.Core.Bool.{Bool, true, false, _&&_, not, false≢true, true≢false}
 use mathlib.Core.List.{List, _∷_}
 use mathlib.Core.Logic.{inl, inr}
 use Prim.Native.Nat.{ℕ, zero, suc, _+_, _*_, _/_, _%_, _≤_, _<_}

@@ -1,19 +1,19 @@
 -- Necklaces: powers of Lyndon words (document 003, section 1.4.1, Propositions 8 and 9), and that every word is a rotation of a
 -- power of exactly one Lyndon word.
 use mathlib.Core.Path.{_≡_, refl, sym, _∙_, ap, ap₂, subst, subst₂}
-use mathlib.Core.Bool.{Bool, true, false, false≢true}
-use mathlib.Core.List.{List, [], _∷_, _++_, append-assoc, append-nil, head-eq-of-cons-eq}
-use mathlib.Core.Logic.{_⊎_, inl, inr}
+use mathlib.Core.Bool.{true}
+use mathlib.Core.List.{List, [], _∷_, _++_, append-assoc, append-nil}
+use mathlib.Core.Logic.{inl, inr}
 use Prim.Native.Nat.{ℕ, zero, suc, _+_, _-_, _*_, _≤_, _<_}
 use native.Mathlib.Omega.{arith}
-use native.Mathlib.Nat.{eq-of-mul-eq-mul-right, zero-mul, suc-mul, le-antisymm}
-use lib.ListN.{length, take, drop, length-append, take-append-drop}
-use lib.Seq.{take-append-seam, drop-append-seam, length-take-le, drop-length, take-length}
+use native.Mathlib.Nat.{eq-of-mul-eq-mul-right, le-antisymm}
+use lib.ListN.{length, length-append}
 use Rattle.theory.specs.Words.{below, turned, leastFrom, smallest, repeated, root, marksOk}
-use Rattle.theory.proofs.Base.{test, Cmp, less, equal, more, cmp, Split, upto, over, split, nil-of, Levi, levi, longer, shorter, split-same, cancel-left, unsnoc, Parts, parts, cut-at}
-use Rattle.theory.proofs.Order.{Lt, Le, Cut, differ, agree, Prefix, prefix, Tri, is-lt, is-eq, is-gt, tri, below-lt, not-below, lt-irrefl, lt-asym, lt-trans, lt-le, le-refl, eq-le, le-trans, le-antisym, le-not-lt, not-lt, cut-lt, cut-irrefl, cut-asym, cut-append, cut-prefix, cut-unprefix, cut-shorten, cut-mid, lt-cut, cut-or, cut-not-prefix, cut-at-letter, prefix-length, prefix-trans, prefix-append, prefix-both}
-use Rattle.theory.proofs.Lyndon.{Prenecklace, Lyndon, Necklace, turned-parts, one-letter, lyndon-pre, pre-prefix, necklace-pre, raise-last}
-use Rattle.theory.proofs.Powers.{repeated-length, repeated-snoc, repeated-add, repeated-comm, repeated-nil, Rot, rot, rot-refl, rot-sym, rot-trans, rot-length, marks-rot, turned-rot, Turn, turn, power-turn, power-rotation, Root, is-root, root-is, root-least, same-root, Extends, extends, extends-prefix, extends-self, extends-power, Behind, behind, extends-long, extends-short, Periods, periods, extends-periods}
+use Rattle.theory.specs.Prenecklaces.{Cut, Prenecklace}
+use Rattle.theory.proofs.Base.{test, less, equal, more, cmp, upto, over, split, nil-of, levi, longer, shorter, split-same, cancel-left}
+use Rattle.theory.proofs.Order.{Lt, Le, Prefix, prefix, is-lt, is-eq, is-gt, tri, below-lt, not-below, lt-irrefl, lt-asym, lt-trans, lt-le, le-refl, eq-le, le-trans, le-antisym, le-not-lt, cut-lt, cut-irrefl, cut-asym, cut-append, cut-prefix, cut-unprefix, cut-shorten, cut-mid, lt-cut, cut-or, cut-at-letter, prefix-append}
+use Rattle.theory.proofs.Lyndon.{Lyndon, Necklace, turned-parts, one-letter, pre-prefix, necklace-pre, raise-last}
+use Rattle.theory.proofs.Powers.{repeated-length, repeated-snoc, repeated-comm, Rot, rot, rot-refl, rot-sym, rot-trans, rot-length, marks-rot, turned-rot, Root, is-root, root-is, root-least, same-root, Extends, extends, extends-self, Behind, behind, extends-long, extends-short, Periods, periods, extends-periods}
 
 -- Proposition 8
 pub product-lyndon : {l m : List ℕ} → Lyndon l → Lyndon m → Lt l m → Lyndon (l ++ m)

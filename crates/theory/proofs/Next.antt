@@ -1,8 +1,8 @@
 -- The step from one Lyndon word of length at most n to the next (document 003, section 1.4.2): it gives one, it is above, it is the
 -- nearest, and it is longer until length n is reached.
-use mathlib.Core.Path.{_≡_, refl, sym, _∙_, ap, ap₂, subst, subst₂}
+use mathlib.Core.Path.{_≡_, refl, sym, _∙_, ap, subst, subst₂}
 use mathlib.Core.Bool.{true}
-use mathlib.Core.List.{List, List-discrete, [], _∷_, _++_, append-assoc, append-nil, head-eq-of-cons-eq, tail-eq-of-cons-eq}
+use mathlib.Core.List.{List, List-discrete, [], _∷_, _++_, append-assoc, append-nil, tail-eq-of-cons-eq}
 use mathlib.Core.Logic.{_⊎_, inl, inr, _≢_}
 use Prim.Native.Nat.{ℕ, zero, suc, _+_, _-_, _≤_, _<_}
 use native.Mathlib.Omega.{arith}
@@ -10,18 +10,19 @@ use native.Mathlib.Decide.{ℕ-discrete}
 use lib.Dec.{ltb}
 use lib.ListN.{length, drop, replicate, length-append, length-replicate, take-append-drop}
 use borrow.Author.Tests.{ltb-true, lt-ltb, le-ltb}
-use Rattle.theory.specs.Words.{below, repeated, marksOk}
+use Rattle.theory.specs.Words.{repeated, marksOk}
 use Rattle.theory.specs.Lists.{In}
 use Rattle.theory.specs.Rings.{lyndonsUp}
 use Rattle.theory.specs.Steps.{extension, raised, nextLyndon}
-use Rattle.theory.proofs.Base.{and-l, and-r, and-in, less, equal, more, cmp, upto, over, split, Levi, levi, longer, shorter, unsnoc}
-use Rattle.theory.proofs.Order.{Lt, Le, empty, sooner, further, Cut, differ, agree, Prefix, prefix, lt-irrefl, lt-asym, le-lt-trans, le-not-lt, cut-lt, cut-irrefl, cut-asym, cut-append, cut-at-letter, cut-or, cut-below, cut-above, begins, cmp3, cut-not-prefix, prefix-le}
-use Rattle.theory.proofs.Lyndon.{Prenecklace, Lyndon, lyndon-in, lyndon-out, lyndon-pre, pre-prefix, raise-last}
+use Rattle.theory.specs.Prenecklaces.{Cut, differ, agree, Prenecklace}
+use Rattle.theory.proofs.Base.{and-l, and-r, and-in, less, equal, more, cmp, upto, over, split, Levi, levi, longer, shorter}
+use Rattle.theory.proofs.Order.{Lt, Le, empty, sooner, further, Prefix, prefix, lt-irrefl, lt-asym, le-lt-trans, le-not-lt, cut-lt, cut-irrefl, cut-asym, cut-append, cut-at-letter, cut-or, cut-below, cut-above, begins, cmp3, cut-not-prefix, prefix-le}
+use Rattle.theory.proofs.Lyndon.{Lyndon, lyndon-in, lyndon-out, lyndon-pre, pre-prefix, raise-last}
 use Rattle.theory.proofs.Powers.{Extends, extends-prefix, Behind, behind, extends-long, extends-short, extension-length, extension-extends}
 use Rattle.theory.proofs.Necklaces.{lyndon-extends-pre, pre-power}
 use Rattle.theory.proofs.Letters.{marks-left, marks-append, marks-extension}
 use Rattle.theory.proofs.Listed.{lyndon-up-words}
-use Rattle.theory.proofs.Tops.{Top, top, under, top-of, replicate-mid, Low, low, lyndon-low}
+use Rattle.theory.proofs.Tops.{Top, top, under, top-of, replicate-mid, low, lyndon-low}
 
 -- what the specification's `raised` does: nothing is left of z .. z; p a z .. z becomes p (a+1)
 pub top-raised : (z t : ℕ) → raised (suc z) (replicate t z) ≡ []

@@ -1,17 +1,18 @@
 -- Dictionary order as relations on words: Lt, Le, Cut (a letter decides), Prefix. The one interface to `same`, `below`, `upTo`.
 use mathlib.Core.Path.{_≡_, refl, sym, _∙_, ap, subst, subst₂}
-use mathlib.Core.Bool.{Bool, true, false, _&&_, _||_, false≢true, true≢false}
-use mathlib.Core.List.{List, [], _∷_, _++_, append-assoc, append-nil, head-eq-of-cons-eq, tail-eq-of-cons-eq, nil≢cons}
+use mathlib.Core.Bool.{true, false, false≢true}
+use mathlib.Core.List.{List, [], _∷_, _++_, append-assoc, append-nil}
 use mathlib.Core.Logic.{_⊎_, inl, inr}
-use Prim.Native.Nat.{ℕ, zero, suc, _+_, _≤_, _<_}
+use Prim.Native.Nat.{ℕ, _+_, _≤_, _<_}
 use native.Mathlib.Omega.{arith}
 use native.Mathlib.Nat.{lt-trans as ℕ-lt-trans, lt-of-le-of-lt}
-use lib.Dec.{eqb, ltb}
+use lib.Dec.{eqb}
 use lib.ListN.{length, take, drop, length-append, take-append-drop}
 use lib.Seq.{take-append-seam}
-use borrow.Author.Tests.{ltb-true, ltb-false, eqb-true, eqb-false, lt-ltb, le-ltb, eq-eqb, ne-eqb}
+use borrow.Author.Tests.{eqb-true, lt-ltb, le-ltb, eq-eqb, ne-eqb}
 use Rattle.theory.specs.Words.{same, below, upTo}
-use Rattle.theory.proofs.Base.{test, and-l, and-r, Cmp, less, equal, more, cmp, Split, upto, over, split, Levi, levi, longer, shorter, cancel-left, nil-of}
+use Rattle.theory.specs.Prenecklaces.{Cut, differ, agree}
+use Rattle.theory.proofs.Base.{test, and-l, and-r, less, equal, more, cmp, upto, over, split, levi, longer, shorter, cancel-left, nil-of}
 
 pub data Lt : List ℕ → List ℕ → Type 0 where
   short : {y : ℕ} {v : List ℕ} → Lt [] (y ∷ v)
@@ -22,11 +23,6 @@ pub data Le : List ℕ → List ℕ → Type 0 where
   empty : {v : List ℕ} → Le [] v
   sooner : {x y : ℕ} {u v : List ℕ} → x < y → Le (x ∷ u) (y ∷ v)
   further : {x : ℕ} {u v : List ℕ} → Le u v → Le (x ∷ u) (x ∷ v)
-
--- a letter decides that u is smaller
-pub data Cut : List ℕ → List ℕ → Type 0 where
-  differ : {x y : ℕ} {u v : List ℕ} → x < y → Cut (x ∷ u) (y ∷ v)
-  agree : {x : ℕ} {u v : List ℕ} → Cut u v → Cut (x ∷ u) (x ∷ v)
 
 pub data Prefix (u v : List ℕ) : Type 0 where
   prefix : (t : List ℕ) → v ≡ u ++ t → Prefix u v

@@ -6,13 +6,13 @@ use mathlib.Core.Logic.{_⊎_, inl, inr, _≢_}
 use Prim.Native.Nat.{ℕ, zero, suc, _+_, _-_, _≤_, _<_}
 use native.Mathlib.Omega.{arith}
 use lib.ListN.{length}
-use Rattle.theory.specs.Words.{below, upTo, keep}
-use Rattle.theory.specs.Lists.{In, here, there, Ascending}
+use Rattle.theory.specs.Words.{below, upTo}
+use Rattle.theory.specs.Lists.{In}
 use Rattle.theory.specs.Rings.{lyndonsUp, ringWords, Allowed, passedBy}
 use Rattle.theory.specs.Steps.{nextLyndon}
 use Rattle.theory.specs.Theorems.{Steps}
 use Rattle.theory.proofs.Base.{test, and-in, less, equal, more, cmp}
-use Rattle.theory.proofs.Order.{Lt, Le, lt-below, below-lt, lt-irrefl, lt-trans, lt-le, le-refl, le-cases, le-trans, le-not-lt, not-below, le-not-below, upTo-le, lt-not-upTo}
+use Rattle.theory.proofs.Order.{Lt, Le, lt-below, below-lt, lt-trans, lt-le, le-refl, le-cases, le-trans, le-not-lt, not-below, le-not-below, upTo-le, lt-not-upTo}
 use Rattle.theory.proofs.Lyndon.{lyndon-some}
 use Rattle.theory.proofs.Listed.{lyndon-up-words, lyndon-up-ascend, ring-words}
 use Rattle.theory.proofs.Lists.{ascend-once}

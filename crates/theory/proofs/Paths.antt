@@ -1,22 +1,21 @@
 -- Document 004's automaton (section 4), its paths: the recurrence for the number of words that lead a state back to w, why these numbers
 -- are those of a longer word too, and the words outside CS(w): y followed by a prefix p of w, where y leads the state behind p back to w.
 use mathlib.Core.Path.{_≡_, refl, sym, _∙_, ap, subst}
-use mathlib.Core.Bool.{Bool, true, not}
+use mathlib.Core.Bool.{Bool, true}
 use mathlib.Core.List.{List, [], _∷_, _++_, append-assoc, append-nil}
 use mathlib.Core.Logic.{inl, inr}
 use Prim.Native.Nat.{ℕ, zero, suc, _+_, _-_, _*_, _^_, _≤_, _<_}
 use native.Mathlib.Omega.{arith}
 use lib.ListN.{length, getD, drop, length-append, length-drop}
 use lib.Seq.{drop-append-le, drop-cons}
-use Rattle.theory.specs.Words.{same, upTo, smallest, withFirst, eachFirst, allWords, keep, marksOk}
-use Rattle.theory.specs.Sums.{cs}
+use Rattle.theory.specs.Words.{same, withFirst, eachFirst, allWords, keep, marksOk}
 use Rattle.theory.specs.Automaton.{moved, run, returning, pathsTo}
 use Rattle.theory.proofs.Base.{test, less, equal, more, cmp, levi, longer, shorter, cancel-right, same-test}
 use Rattle.theory.proofs.Order.{same-eq, eq-same, ne-same}
 use Rattle.theory.proofs.Lists.{keep-append, keep-none}
 use Rattle.theory.proofs.Counts.{keep-same, keep-length}
 use Rattle.theory.proofs.Letters.{marks-getD}
-use Rattle.theory.proofs.Lyndon.{Prenecklace}
+use Rattle.theory.specs.Prenecklaces.{Prenecklace}
 use Rattle.theory.proofs.AllWords.{all-in, all-count}
 use Rattle.theory.proofs.Automaton.{moved-less, moved-same, moved-more, run-nil, State, state, home-state, state-length, Walk, stay, follow, restart, walk-run, walk-state, walk-some, walk-append, walk-straight, halves, walk-split, Since, since, never, walk-since, home-alone, run-walk, Turns, turns-accepts}
 

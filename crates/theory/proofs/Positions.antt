@@ -1,5 +1,5 @@
 -- The word that holds a position of the strip, found by sizes of CS (document 004, Theorem 24).
-use mathlib.Core.Path.{_≡_, refl, sym, _∙_, ap, ap₂, subst}
+use mathlib.Core.Path.{_≡_, sym, _∙_, ap, ap₂, subst}
 use mathlib.Core.Bool.{Bool, true}
 use mathlib.Core.List.{List, [], _∷_, _++_, append-assoc, append-nil}
 use mathlib.Core.Logic.{_↔_}
@@ -10,20 +10,20 @@ use lib.Dec.{ltb}
 use lib.ListN.{length, take, replicate, length-append}
 use lib.Seq.{take-append-seam}
 use borrow.Author.Tests.{ltb-true, lt-ltb}
-use Rattle.theory.specs.Words.{upTo, smallest, repeated, root, marksOk}
+use Rattle.theory.specs.Words.{upTo, smallest, repeated, root, marksOk, powerTo}
 use Rattle.theory.specs.Lists.{In, Ascending}
-use Rattle.theory.specs.Rings.{divides, joined, beforeW, cursor}
+use Rattle.theory.specs.Rings.{divides, joined, beforeW}
 use Rattle.theory.specs.Strips.{stripWords, cursorAt, divisorOf}
 use Rattle.theory.specs.Sums.{cs}
 use Rattle.theory.specs.Search.{leastWord}
-use Rattle.theory.specs.Theorems.{powerTo, Searched}
-use Rattle.theory.proofs.Base.{unsnoc, Split, upto, over, split as split-at}
+use Rattle.theory.specs.Theorems.{Searched}
+use Rattle.theory.proofs.Base.{unsnoc, upto, over, split as split-at}
 use Rattle.theory.proofs.Order.{Lt, Le, upTo-le, le-antisym, le-not-lt}
 use Rattle.theory.proofs.Lists.{found, in-split, in-mid, joined-append}
 use Rattle.theory.proofs.Letters.{marks-left}
 use Rattle.theory.proofs.Lyndon.{Lyndon}
 use Rattle.theory.proofs.Powers.{repeated-length, root-divides}
-use Rattle.theory.proofs.Necklaces.{Base, base, base-of}
+use Rattle.theory.proofs.Necklaces.{base, base-of}
 use Rattle.theory.proofs.Listed.{ring-ascend}
 use Rattle.theory.proofs.Joined.{before-is, word-at}
 use Rattle.theory.proofs.Floors.{floor-is, floor-cs}

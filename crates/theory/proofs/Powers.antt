@@ -1,21 +1,20 @@
 -- Powers of a word, its extensions (document 003's sesquipowers), shortest roots and rotations of powers.
 use mathlib.Core.Path.{_≡_, refl, sym, _∙_, ap, ap₂, subst}
-use mathlib.Core.Bool.{Bool, true, false, _&&_, false≢true}
-use mathlib.Core.List.{List, [], _∷_, _++_, append-assoc, append-nil}
-use mathlib.Core.Logic.{_⊎_, inl, inr}
+use mathlib.Core.Bool.{true, false, false≢true}
+use mathlib.Core.List.{List, [], _++_, append-assoc, append-nil}
+use mathlib.Core.Logic.{inl, inr}
 use Prim.Native.Nat.{ℕ, zero, suc, _+_, _-_, _*_, _/_, _%_, _≤_, _<_}
 use native.Mathlib.Omega.{arith}
 use native.Mathlib.Nat.{mul-mod-left, mul-div-cancel, div-add-mod', zero-mul, suc-mul, le-mul-of-pos-right, suc-add}
 use lib.Dec.{eqb, leb}
-use lib.ListN.{length, take, drop, length-append, length-take, take-append-drop}
-use lib.Seq.{take-append-seam, take-append-le, length-take-le, take-nil, take-length}
+use lib.ListN.{length, take, drop, length-append, take-append-drop}
+use lib.Seq.{take-append-seam, length-take-le}
 use borrow.Author.Tests.{leb-true, le-leb, eqb-true, eq-eqb}
-use Rattle.theory.specs.Words.{same, turned, repeated, isRoot, rootFrom, root, marksOk}
+use Rattle.theory.specs.Words.{turned, repeated, isRoot, rootFrom, root, marksOk}
 use Rattle.theory.specs.Steps.{extension}
-use Rattle.theory.proofs.Base.{test, and-l, and-r, and-in, Cmp, less, equal, more, cmp, Split, upto, over, split, nil-of, Levi, levi, longer, shorter, split-same, cancel-left, cancel-right, Parts, parts, cut-at}
-use Rattle.theory.proofs.Order.{Prefix, prefix, same-eq, eq-same, prefix-length, prefix-trans, prefix-append, prefix-under, prefix-drop, prefix-both, prefix-eq}
+use Rattle.theory.proofs.Base.{test, and-l, and-r, and-in, Cmp, less, equal, more, cmp, Split, upto, over, split, nil-of, levi, longer, shorter}
+use Rattle.theory.proofs.Order.{Prefix, prefix, same-eq, eq-same, prefix-trans, prefix-under, prefix-drop, prefix-both, prefix-eq}
 use Rattle.theory.proofs.Letters.{marks-left, marks-right, marks-append}
-use Rattle.theory.proofs.Lyndon.{turned-parts}
 use Rattle.theory.specs.Rings.{divides}
 use Rattle.theory.proofs.Divisors.{times, divides-in}
 

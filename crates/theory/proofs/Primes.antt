@@ -4,12 +4,12 @@ use mathlib.Core.Bool.{true, false, _&&_, not, true≢false}
 use mathlib.Core.Logic.{_⊎_, inl, inr}
 use Prim.Native.Nat.{ℕ, zero, suc, _+_, _*_, _/_, _%_, _≤_, _<_}
 use native.Mathlib.Omega.{arith}
-use native.Mathlib.Nat.{mod-lt, div-add-mod', mul-mod-left, mul-add-mod-self-right}
+use native.Mathlib.Nat.{mod-lt, div-add-mod'}
 use lib.Dec.{eqb, ltb, leb}
-use borrow.Author.Tests.{ltb-true, leb-true, eqb-true, lt-ltb, le-leb, eq-eqb, not-true}
+use borrow.Author.Tests.{ltb-true, leb-true, lt-ltb, le-leb, not-true}
 use Rattle.theory.specs.Sums.{primeFrom, isPrime}
 use Rattle.theory.proofs.Base.{test, and-l, and-r, and-in, cmp, less, equal, more}
-use Rattle.theory.proofs.Divisors.{Div, times, mod-div, test-div, div-test, div-refl, div-trans, div-times, div-rest, div-le}
+use Rattle.theory.proofs.Divisors.{Div, mod-div, test-div, div-test, div-refl, div-trans, div-times, div-rest, div-le}
 
 -- primes: no divisor but 1 and the number itself
 pub record Prime (p : ℕ) : Type 0 where

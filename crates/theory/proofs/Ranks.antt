@@ -11,7 +11,7 @@ use Rattle.theory.specs.Words.{below, upTo, isLyndon, keep, lyndons, how
 use Rattle.theory.specs.Lists.{In, here, there, Ascending}
 use Rattle.theory.specs.Theorems.{Undone}
 use Rattle.theory.proofs.Order.{Le, eq-le, lt-le, lt-below, le-not-below, le-upTo, lt-not-upTo}
-use Rattle.theory.proofs.Lists.{getD-in, Index, index, in-index, ascend-before, ascend-after, in-rest, keep-split}
+use Rattle.theory.proofs.Lists.{getD-in, index, in-index, ascend-before, ascend-after, in-rest, keep-split}
 use Rattle.theory.proofs.Listed.{lyndon-words, lyndon-ascend}
 
 module _ (a : List (List ℕ)) (u : List ℕ) (b : List (List ℕ)) (up : Ascending (a ++ (u ∷ b))) where

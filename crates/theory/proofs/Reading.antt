@@ -1,18 +1,17 @@
 -- Words read round and round: the letters at successive positions, and the first position at which a word is read.
 use mathlib.Core.Path.{_≡_, refl, sym, _∙_, ap, ap₂, subst}
-use mathlib.Core.Bool.{Bool, true, false, _&&_}
-use mathlib.Core.List.{List, [], _∷_, _++_, append-assoc}
-use mathlib.Core.Logic.{_⊎_, inl, inr}
+use mathlib.Core.Bool.{true, false}
+use mathlib.Core.List.{List, _∷_, _++_, append-assoc}
+use mathlib.Core.Logic.{inl, inr}
 use Prim.Native.Nat.{ℕ, zero, suc, _+_, _-_, _%_, _≤_, _<_}
 use native.Mathlib.Omega.{arith}
 use native.Mathlib.Nat.{mod-lt, mod-eq-of-lt, mod-self, mod-mod, suc-mod, add-mod-right, add-comm, add-zero, add-suc, zero-add, suc-add}
-use lib.Dec.{ltb}
 use lib.ListN.{length, getD, take, drop, length-append, List·getD-append}
-use lib.Seq.{take-append-seam, take-append-add, drop-append-seam, drop-append-le, drop-cons, getD-append-add}
-use borrow.Author.Tests.{ltb-true, lt-ltb}
+use lib.Seq.{take-append-seam, take-append-add, drop-append-seam, drop-cons, getD-append-add}
+use borrow.Author.Tests.{lt-ltb}
 use Rattle.theory.specs.Words.{same, marksOk}
 use Rattle.theory.specs.Rings.{modulo, letterOn, lettersOn, findOn}
-use Rattle.theory.proofs.Base.{test, and-l, and-r, and-in, Cmp, less, equal, more, cmp, Split, upto, over, split}
+use Rattle.theory.proofs.Base.{test, and-in, less, equal, more, cmp, upto, over, split}
 use Rattle.theory.proofs.Order.{same-eq, same-ne}
 use Rattle.theory.proofs.Letters.{marks-getD}
 

@@ -1,27 +1,27 @@
 -- The ring theorem in the specification's words, for every set of allowed lengths; the strip's, with its k^n places.
-use mathlib.Core.Path.{_≡_, refl, sym, _∙_, ap, ap₂, subst}
-use mathlib.Core.Bool.{Bool, true, false}
-use mathlib.Core.List.{List, [], _∷_, _++_}
+use mathlib.Core.Path.{_≡_, sym, _∙_, ap, ap₂, subst}
+use mathlib.Core.Bool.{Bool, true}
+use mathlib.Core.List.{List, _∷_, _++_}
 use mathlib.Core.Logic.{_≢_}
-use Prim.Native.Nat.{ℕ, zero, suc, _+_, _-_, _*_, _%_, _^_, _≤_, _<_}
+use Prim.Native.Nat.{ℕ, zero, suc, _+_, _-_, _^_, _≤_, _<_}
 use native.Mathlib.Omega.{arith}
-use native.Mathlib.Nat.{mul-mod-left, suc-mul, one-le-pow}
-use lib.Dec.{eqb, leb}
+use native.Mathlib.Nat.{suc-mul, one-le-pow}
+use lib.Dec.{leb}
 use lib.ListN.{length, take, drop, replicate, length-drop, take-append-drop}
 use lib.Seq.{length-take-le, take-append-seam}
-use borrow.Author.Tests.{leb-true, le-leb, eq-eqb}
-use Rattle.theory.specs.Words.{below, turned, smallest, repeated, root, marksOk, allWords, keep}
+use borrow.Author.Tests.{leb-true}
+use Rattle.theory.specs.Words.{below, turned, smallest, root, marksOk, allWords, powerTo}
 use Rattle.theory.specs.Lists.{In, Ascending}
-use Rattle.theory.specs.Rings.{Allowed, divides, ringWords, ring, modulo, findOn, lettersOn, beforeW}
+use Rattle.theory.specs.Rings.{Allowed, divides, ringWords, ring, modulo, findOn, lettersOn, beforeW, windowOn, placeOn}
 use Rattle.theory.specs.Strips.{admitted, stripWords, strip, placeOf, window, divisorOf}
-use Rattle.theory.specs.Theorems.{windowOn, placeOn, powerTo, Ring, One-place}
-use Rattle.theory.proofs.Base.{and-l, and-r, and-in}
-use Rattle.theory.proofs.Order.{lt-below, Prefix, prefix, prefix-take, take-prefix}
-use Rattle.theory.proofs.Lists.{keep-all, in-append-left, in-split, Found, found, ascend-before}
+use Rattle.theory.specs.Theorems.{Ring, One-place}
+use Rattle.theory.proofs.Base.{and-l, and-r}
+use Rattle.theory.proofs.Order.{lt-below, Prefix, prefix-take, take-prefix}
+use Rattle.theory.proofs.Lists.{keep-all, in-append-left, in-split, found, ascend-before}
 use Rattle.theory.proofs.Letters.{marks-joined}
 use Rattle.theory.proofs.Listed.{all-words, all-count, ring-words, ring-ascend}
-use Rattle.theory.proofs.Powers.{repeated-length, Root, is-root, root-is, root-size, root-divides}
-use Rattle.theory.proofs.Reading.{letters-length, letters-marks}
+use Rattle.theory.proofs.Powers.{root-is, root-size, root-divides}
+use Rattle.theory.proofs.Reading.{letters-marks}
 use Rattle.theory.proofs.Tops.{one-less}
 use Rattle.theory.proofs.Rotations.{ring-base, ring-base-of}
 use Rattle.theory.proofs.Seams.{Setting}

@@ -2,27 +2,24 @@
 -- their powers of length n are all different, and they are the words whose smallest rotation is such a power. So a ring is as long as
 -- the words that it covers are many, and so is what its words up to a necklace cover. For every k.
 use mathlib.Core.Path.{_≡_, refl, sym, _∙_, ap, subst, subst₂}
-use mathlib.Core.Bool.{Bool, true, false, _&&_}
+use mathlib.Core.Bool.{Bool, true, _&&_}
 use mathlib.Core.List.{List, _++_, append-assoc, append-nil}
-use Prim.Native.Nat.{ℕ, zero, suc, _*_, _/_, _%_, _≤_, _<_}
+use Prim.Native.Nat.{ℕ, zero, suc, _*_, _/_, _≤_, _<_}
 use native.Mathlib.Omega.{arith}
-use native.Mathlib.Nat.{zero-mul, suc-mul, mul-assoc, mul-div-cancel, mul-mod-left, div-add-mod'}
-use lib.Dec.{eqb, leb}
+use native.Mathlib.Nat.{suc-mul, mul-div-cancel}
 use lib.ListN.{length, take, drop, length-append, take-append-drop}
 use lib.Seq.{length-take-le}
-use borrow.Author.Tests.{leb-true, le-leb, eqb-true, eq-eqb}
-use Rattle.theory.specs.Words.{turned, smallest, repeated, root, isLyndon, marksOk, allWords, keep}
+use Rattle.theory.specs.Words.{turned, smallest, repeated, root, isLyndon, marksOk, allWords, keep, powerTo}
 use Rattle.theory.specs.Lists.{In, Once}
 use Rattle.theory.specs.Rings.{divides, Allowed, ringWords, ring}
-use Rattle.theory.specs.Theorems.{powerTo}
 use Rattle.theory.proofs.Base.{and-l, and-r, and-in, upto, over, split, and-true}
 use Rattle.theory.proofs.Order.{Lt, Prefix, prefix}
 use Rattle.theory.proofs.Lists.{keep-in, in-keep, keep-all, keep-once, ascend-once, each, each-in, in-each, each-length, each-once, image, gather, gather-in, in-gather, gather-once, gathered, span, span-in, in-span, span-once, span-length}
 use Rattle.theory.proofs.Counts.{sum, sum-ext, keep-same, once-eq, gather-length, joined-length}
-use Rattle.theory.proofs.Letters.{marks-left, marks-right, marks-append, marks-repeated}
+use Rattle.theory.proofs.Letters.{marks-left, marks-repeated}
 use Rattle.theory.proofs.Lyndon.{Lyndon, Necklace, turned-parts, lyndon-in, lyndon-out}
 use Rattle.theory.proofs.Listed.{all-words, all-ascend, ring-words, ring-ascend}
-use Rattle.theory.proofs.Powers.{repeated-length, Rot, rot, rot-sym, turned-rot, same-root, Turn, turn, power-turn, marks-rot}
+use Rattle.theory.proofs.Powers.{repeated-length, rot, rot-sym, turned-rot, same-root, Turn, turn, power-turn, marks-rot}
 use Rattle.theory.proofs.Necklaces.{power-necklace, power-root, power-one, power-lt, power-lt-out, smallest-is, smallest-rot, smallest-length, turn-once, base, base-of}
 use Rattle.theory.proofs.Divisors.{multiple, divides-le}
 

@@ -1,30 +1,28 @@
 -- Fredricksen and Maiorana's theorem (document 003, Theorem 1.5.6), for a ring of any allowed lengths: what is read across the
 -- seam between two neighbouring words. N u is the power of u of length n.
-use mathlib.Core.Path.{_≡_, refl, sym, _∙_, ap, ap₂, subst, subst₂}
-use mathlib.Core.Bool.{Bool, true, false}
+use mathlib.Core.Path.{_≡_, refl, sym, _∙_, ap, subst, subst₂}
+use mathlib.Core.Bool.{Bool, true}
 use mathlib.Core.List.{List, [], _∷_, _++_, append-assoc, append-nil, head-eq-of-cons-eq, tail-eq-of-cons-eq, List-discrete}
-use mathlib.Core.Logic.{_⊎_, inl, inr, _≢_}
-use Prim.Native.Nat.{ℕ, zero, suc, _+_, _-_, _*_, _/_, _%_, _≤_, _<_}
+use mathlib.Core.Logic.{inl, inr, _≢_}
+use Prim.Native.Nat.{ℕ, suc, _+_, _-_, _≤_, _<_}
 use native.Mathlib.Omega.{arith}
-use native.Mathlib.Nat.{zero-mul, suc-mul, mul-div-cancel, div-add-mod', zero-add, mod-self}
+use native.Mathlib.Nat.{suc-mul}
 use native.Mathlib.Decide.{ℕ-discrete}
-use lib.Dec.{eqb, leb}
 use lib.ListN.{length, replicate, length-append, length-replicate}
-use borrow.Author.Tests.{leb-true, eqb-true}
-use Rattle.theory.specs.Words.{below, upTo, isLyndon, repeated, marksOk}
+use Rattle.theory.specs.Words.{repeated, marksOk, powerTo}
 use Rattle.theory.specs.Lists.{In, here, there, Ascending}
-use Rattle.theory.specs.Rings.{divides, Allowed, ringWords, joined, ring}
-use Rattle.theory.specs.Theorems.{powerTo}
-use Rattle.theory.proofs.Base.{and-l, and-r, Split, upto, over, split, nil-of, Levi, levi, longer, shorter, split-same}
-use Rattle.theory.proofs.Order.{Lt, Le, Cut, Prefix, prefix, Tri, is-lt, is-eq, is-gt, tri, lt-irrefl, lt-asym, lt-le, le-not-lt, le-lt-trans, lt-le-trans, le-cases, eq-le, not-lt, cut-lt, cut-append, cut-at-letter, Three, cut-below, cut-above, begins, cmp3, prefix-trans, prefix-both, prefix-under, prefix-length, prefix-eq}
-use Rattle.theory.proofs.Lists.{in-append-left, in-append-right, in-append-cases, in-mid, in-split, Found, found, ascend-before, ascend-after, ascend-right, ascend-around, Around, around}
-use Rattle.theory.proofs.Letters.{marks-left, marks-right, marks-append, marks-repeated, marks-replicate, marks-cons}
+use Rattle.theory.specs.Rings.{Allowed, ringWords, joined}
+use Rattle.theory.specs.Prenecklaces.{Cut, Prenecklace}
+use Rattle.theory.proofs.Base.{upto, over, split, levi, longer, shorter}
+use Rattle.theory.proofs.Order.{Lt, Le, Prefix, prefix, is-lt, is-eq, is-gt, tri, lt-irrefl, lt-asym, lt-le, le-not-lt, le-cases, eq-le, cut-lt, cut-append, cut-at-letter, cut-below, cut-above, begins, cmp3, prefix-trans, prefix-both, prefix-under}
+use Rattle.theory.proofs.Lists.{in-append-right, in-append-cases, in-mid, ascend-before, ascend-after, ascend-right}
+use Rattle.theory.proofs.Letters.{marks-left, marks-append, marks-repeated, marks-replicate, marks-cons}
 use Rattle.theory.proofs.Listed.{ring-words, ring-ascend}
-use Rattle.theory.proofs.Lyndon.{Lyndon, Prenecklace, lyndon-in, lyndon-out, necklace-pre, fill-top}
-use Rattle.theory.proofs.Powers.{repeated-length, repeated-snoc}
+use Rattle.theory.proofs.Lyndon.{Lyndon, lyndon-out, necklace-pre, fill-top}
+use Rattle.theory.proofs.Powers.{repeated-snoc}
 use Rattle.theory.proofs.Necklaces.{power-necklace}
 use Rattle.theory.proofs.Rotations.{Fits, power-is, power-length, power-self, powers-lt, powers-lt-out, ring-fits}
-use Rattle.theory.proofs.Tops.{Top, top, under, top-of, replicate-mid, replicate-split, Low, low, lyndon-low, low-below, Last, is-z, not-above, last-or, last-lyndon}
+use Rattle.theory.proofs.Tops.{top, under, top-of, replicate-mid, replicate-split, Low, low, lyndon-low, low-below, Last, is-z, not-above, last-or, last-lyndon}
 use Rattle.theory.proofs.Divisors.{divides-le}
 
 -- between two words that begin with p every word begins with p

@@ -1,31 +1,22 @@
 -- Words found letter by letter (document 004, Theorems 21 and 24): the word of an index by ranks, the word that holds a position by
 -- sizes of CS.
-use mathlib.Core.Path.{_≡_, refl, sym, _∙_, ap, ap₂, subst, subst₂}
+use mathlib.Core.Path.{_≡_, refl, sym, _∙_, ap, subst}
 use mathlib.Core.Bool.{Bool, true, false, false≢true}
 use mathlib.Core.List.{List, [], _∷_, _++_, append-assoc, append-nil}
-use mathlib.Core.Logic.{_⊎_, inl, inr, _≢_}
-use Prim.Native.Nat.{ℕ, zero, suc, _+_, _-_, _*_, _^_, _≤_, _<_}
+use mathlib.Core.Logic.{inl, inr, _≢_}
+use Prim.Native.Nat.{ℕ, zero, suc, _+_, _-_, _≤_, _<_}
 use native.Mathlib.Omega.{arith}
-use lib.Dec.{ltb, leb}
-use lib.ListN.{length, getD, take, replicate, length-append, length-replicate}
-use borrow.Author.Tests.{ltb-true, ltb-false, lt-ltb, leb-true, le-leb}
-use Rattle.theory.specs.Words.{upTo, below, isLyndon, smallest, root, keep, allWords, lyndons, howMany, rank, wordOf, marksOk}
-use Rattle.theory.specs.Lists.{In, here, there, Ascending, Once}
-use Rattle.theory.specs.Rings.{beforeW, cursor}
-use Rattle.theory.specs.Strips.{stripWords, cursorAt, divisorOf}
-use Rattle.theory.specs.Sums.{cs}
+use lib.Dec.{leb}
+use lib.ListN.{length, replicate, length-append, length-replicate}
+use borrow.Author.Tests.{leb-true, le-leb}
+use Rattle.theory.specs.Words.{upTo, isLyndon, howMany, rank, wordOf, marksOk}
 use Rattle.theory.specs.Search.{leastLetter, leastWord}
-use Rattle.theory.specs.Theorems.{powerTo, Searched}
-use Rattle.theory.proofs.Base.{test, less, equal, more, Cmp, cmp, Split, upto, over, split, nil-of}
-use Rattle.theory.proofs.Order.{Lt, Le, Cut, differ, agree, le-upTo, upTo-le, le-trans, le-antisym, le-cases, lt-le, lt-below, below-lt, le-lt-trans, lt-le-trans, lt-irrefl, le-prefix, further, not-lt, cut-lt, lt-cut, cut-irrefl, Decided, decided, decide, tri, is-lt, is-eq, is-gt, eq-le, le-not-lt, le-refl}
-use Rattle.theory.proofs.Lists.{keep-in, in-keep, keep-all, keep-once, ascend-once}
-use Rattle.theory.proofs.Counts.{once-le}
-use Rattle.theory.proofs.Letters.{marks-append, marks-cons, marks-right, marks-head, marks-tail, marks-replicate}
-use Rattle.theory.proofs.Listed.{all-words, all-ascend, all-count, lyndon-words, lyndon-ascend}
+use Rattle.theory.specs.Prenecklaces.{Cut, differ, agree}
+use Rattle.theory.proofs.Base.{test, less, equal, more, cmp}
+use Rattle.theory.proofs.Order.{Le, le-upTo, upTo-le, le-antisym, le-prefix, further, not-lt, lt-cut}
+use Rattle.theory.proofs.Letters.{marks-append, marks-cons, marks-right, marks-tail, marks-replicate}
 use Rattle.theory.proofs.Ranks.{undone}
 use Rattle.theory.proofs.Tops.{no-higher, one-less}
-use Rattle.theory.proofs.Necklaces.{smallest-length, smallest-marks, Base, base, base-of}
-use Rattle.theory.proofs.Floors.{floor-is, floor-cs}
 use Rattle.theory.proofs.Levels.{rank-mono, rank-top, rank-strict}
 
 -- the letter found: a letter that passes, or the one that was not tried; no smaller one passes

@@ -1,7 +1,7 @@
 -- The size of CS(w) from the automaton's paths (document 004, section 4): the words outside CS(w), listed by the prefix of w that ends
 -- them, are as many as there are paths along an antidiagonal; so one table, of w, gives the size for every prefix of w.
 use mathlib.Core.Path.{_≡_, refl, sym, _∙_, ap, subst, subst₂}
-use mathlib.Core.Bool.{Bool, true, false, not, false≢true}
+use mathlib.Core.Bool.{Bool, true, not}
 use mathlib.Core.List.{List, _++_}
 use Prim.Native.Nat.{ℕ, zero, suc, _+_, _-_, _^_, _≤_, _<_}
 use native.Mathlib.Omega.{arith}
@@ -12,13 +12,14 @@ use Rattle.theory.specs.Lists.{In, Once}
 use Rattle.theory.specs.Sums.{cs}
 use Rattle.theory.specs.Automaton.{run, returning, pathsTo}
 use Rattle.theory.specs.Theorems.{Automaton}
+use Rattle.theory.specs.Prenecklaces.{Prenecklace}
 use Rattle.theory.proofs.Base.{cancel-right, refute, refuted}
 use Rattle.theory.proofs.Order.{same-eq, same-refl, eq-same}
 use Rattle.theory.proofs.Lists.{keep-in, in-keep, keep-once, each, image, each-in, in-each, each-length, each-once, gather, gathered, gather-in, in-gather, gather-once, span, span-in, in-span, span-once, ascend-once}
 use Rattle.theory.proofs.Counts.{sum, sum-ext, once-eq, gather-length, keep-both}
 use Rattle.theory.proofs.Letters.{marks-left, marks-take, marks-append}
-use Rattle.theory.proofs.Lyndon.{Prenecklace, Necklace, pre-prefix, necklace-pre}
-use Rattle.theory.proofs.Necklaces.{smallest-necklace, smallest-pre}
+use Rattle.theory.proofs.Lyndon.{pre-prefix}
+use Rattle.theory.proofs.Necklaces.{smallest-pre}
 use Rattle.theory.proofs.AllWords.{all-in, in-all, all-ascend, all-count}
 use Rattle.theory.proofs.Automaton.{state, Walk, walk-run, run-walk, turns-upTo, upTo-turns, Twice, accepted, refused, twice, accepts-pre}
 use Rattle.theory.proofs.Paths.{home-away, home-step, home-small, paths-front, Returns, returns, both-home, refused-returns, returns-refused}

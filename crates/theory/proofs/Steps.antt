@@ -13,8 +13,9 @@ use Rattle.theory.specs.Lists.{In, here, there}
 use Rattle.theory.specs.Rings.{lyndonsUp}
 use Rattle.theory.specs.Steps.{extension, nextLyndon, lowered, periodFrom, period, previousLyndon}
 use Rattle.theory.specs.Theorems.{Steps}
+use Rattle.theory.specs.Prenecklaces.{Cut}
 use Rattle.theory.proofs.Base.{and-in, less, equal, more, cmp, levi, longer, shorter}
-use Rattle.theory.proofs.Order.{Lt, short, now, later, Le, Cut, Prefix, prefix, is-lt, is-eq, is-gt, tri, eq-same, ne-same, lt-below, below-lt, lt-irrefl, lt-asym, lt-le, le-refl, eq-le, le-cases, le-trans, le-not-lt, le-upTo, cut-append, cut-not-prefix}
+use Rattle.theory.proofs.Order.{Lt, short, now, later, Le, Prefix, prefix, is-lt, is-eq, is-gt, tri, eq-same, ne-same, lt-below, below-lt, lt-irrefl, lt-asym, lt-le, le-refl, eq-le, le-cases, le-trans, le-not-lt, le-upTo, cut-append, cut-not-prefix}
 use Rattle.theory.proofs.Lyndon.{Lyndon, one-letter}
 use Rattle.theory.proofs.Powers.{Extends, behind, extends-long, extension-length, extension-extends}
 use Rattle.theory.proofs.Tops.{one-less, not-last}

@@ -1,15 +1,16 @@
 -- Words over 0 to z, z the last letter: how they end in letters z, and where Lyndon words stand to z.
 use mathlib.Core.Path.{_≡_, refl, sym, _∙_, ap, ap₂, subst}
 use mathlib.Core.Bool.{true}
-use mathlib.Core.List.{List, List-discrete, [], _∷_, _++_, append-assoc, append-nil, head-eq-of-cons-eq, tail-eq-of-cons-eq, nil≢cons}
-use mathlib.Core.Logic.{_⊎_, inl, inr, _≢_}
-use Prim.Native.Nat.{ℕ, zero, suc, _+_, _-_, _*_, _≤_, _<_}
+use mathlib.Core.List.{List, List-discrete, [], _∷_, _++_, head-eq-of-cons-eq, tail-eq-of-cons-eq, nil≢cons}
+use mathlib.Core.Logic.{_≢_}
+use Prim.Native.Nat.{ℕ, zero, suc, _+_, _-_, _≤_, _<_}
 use native.Mathlib.Omega.{arith}
 use native.Mathlib.Decide.{ℕ-discrete}
-use lib.ListN.{length, replicate, length-append, length-replicate, replicate-append-replicate}
+use lib.ListN.{length, replicate, length-replicate, replicate-append-replicate}
 use Rattle.theory.specs.Words.{marksOk, repeated}
-use Rattle.theory.proofs.Base.{Cmp, less, equal, more, cmp, nil-of, Levi, levi, longer, shorter}
-use Rattle.theory.proofs.Order.{Lt, short, now, later, Le, empty, sooner, further, Cut, differ, agree, lt-le, eq-le, not-lt}
+use Rattle.theory.specs.Prenecklaces.{Cut, differ, agree}
+use Rattle.theory.proofs.Base.{Cmp, less, equal, more, cmp}
+use Rattle.theory.proofs.Order.{Lt, now, later, Le, empty, sooner, further, not-lt}
 use Rattle.theory.proofs.Letters.{marks-head, marks-tail}
 use Rattle.theory.proofs.Lyndon.{Lyndon, append-top, one-letter}
 

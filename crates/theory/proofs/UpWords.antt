@@ -2,15 +2,16 @@
 use mathlib.Core.Path.{_≡_, refl, sym, _∙_, ap, subst, subst₂}
 use mathlib.Core.Bool.{true}
 use mathlib.Core.List.{List, [], _∷_, _++_, append-assoc, append-nil}
-use mathlib.Core.Logic.{_⊎_, inl, inr, _↔_}
+use mathlib.Core.Logic.{inl, inr, _↔_}
 use Prim.Native.Nat.{ℕ, zero, suc, _+_, _≤_, _<_}
 use native.Mathlib.Omega.{arith}
 use lib.ListN.{length}
 use Rattle.theory.specs.Words.{below, marksOk}
 use Rattle.theory.specs.Lists.{In, here, there, Ascending}
 use Rattle.theory.specs.Rings.{heads, wordsFrom, upWords}
+use Rattle.theory.specs.Prenecklaces.{Cut}
 use Rattle.theory.proofs.Base.{cmp, less, equal, more}
-use Rattle.theory.proofs.Order.{Lt, Cut, Prefix, prefix, cut-lt, cut-append, cut-at-letter, lt-append, lt-below}
+use Rattle.theory.proofs.Order.{Lt, Prefix, prefix, cut-lt, cut-append, cut-at-letter, lt-append, lt-below}
 use Rattle.theory.proofs.Lists.{in-nil, in-append-left, in-append-right, in-append-cases, ascend-append}
 use Rattle.theory.proofs.Letters.{marks-cons, marks-head, marks-tail}
 

@@ -2,30 +2,28 @@
 -- w all z.
 use mathlib.Core.Path.{_≡_, refl, sym, _∙_, ap, ap₂, subst, subst₂}
 use mathlib.Core.Bool.{Bool, true, false, false≢true}
-use mathlib.Core.List.{List, [], _∷_, _++_, append-assoc, append-nil, head-eq-of-cons-eq, tail-eq-of-cons-eq, List-discrete}
+use mathlib.Core.List.{List, [], _∷_, _++_, append-assoc, append-nil, tail-eq-of-cons-eq, List-discrete}
 use mathlib.Core.Logic.{_⊎_, inl, inr, _≢_}
-use Prim.Native.Nat.{ℕ, zero, suc, _+_, _-_, _*_, _/_, _≤_, _<_}
+use Prim.Native.Nat.{ℕ, suc, _+_, _-_, _≤_, _<_}
 use native.Mathlib.Omega.{arith}
-use native.Mathlib.Nat.{mul-div-cancel, suc-mul}
+use native.Mathlib.Nat.{suc-mul}
 use native.Mathlib.Decide.{ℕ-discrete}
-use lib.ListN.{length, take, drop, replicate, length-append, length-replicate, replicate-append-replicate}
-use lib.Seq.{take-at, take-append-seam}
-use Rattle.theory.specs.Words.{same, below, smallest, repeated, root, marksOk, turned}
+use lib.ListN.{length, take, replicate, length-append, length-replicate, replicate-append-replicate}
+use Rattle.theory.specs.Words.{same, smallest, repeated, root, marksOk, powerTo}
 use Rattle.theory.specs.Lists.{In, here, there, Ascending}
-use Rattle.theory.specs.Rings.{Allowed, ringWords, joined, ring, modulo, lettersOn, beforeW}
-use Rattle.theory.specs.Theorems.{powerTo}
-use Rattle.theory.proofs.Base.{Split, upto, over, split, nil-of, Levi, levi, longer, shorter, split-same, unsnoc}
-use Rattle.theory.proofs.Order.{Lt, now, Prefix, prefix, lt-irrefl, lt-asym, below-lt, lt-below, same-eq, eq-same, prefix-trans, prefix-take, take-prefix}
-use Rattle.theory.proofs.Lists.{joined-append, in-append-left, in-append-right, in-append-cases, in-mid, in-split, Found, found, First, first, first-of, ascend-before, ascend-after, ascend-around, ascend-right, Around, around}
-use Rattle.theory.proofs.Letters.{marks-left, marks-right, marks-append, marks-cons}
-use Rattle.theory.proofs.Listed.{ring-words, ring-ascend}
-use Rattle.theory.proofs.Lyndon.{Lyndon, one-letter}
-use Rattle.theory.proofs.Powers.{repeated-length, repeated-snoc, Rot, rot, rot-sym, rot-length, Turn, turn, power-turn}
-use Rattle.theory.proofs.Necklaces.{smallest-rot, smallest-marks, smallest-length, Base, base, base-of}
+use Rattle.theory.specs.Rings.{joined, ring, modulo, lettersOn, beforeW}
+use Rattle.theory.proofs.Base.{upto, over, split, nil-of, levi, longer, shorter, unsnoc}
+use Rattle.theory.proofs.Order.{Lt, now, Prefix, prefix, lt-irrefl, lt-asym, below-lt, same-eq, eq-same, prefix-trans, prefix-take, take-prefix}
+use Rattle.theory.proofs.Lists.{joined-append, in-append-right, in-append-cases, in-mid, in-split, found, first, first-of, ascend-around, ascend-right, around}
+use Rattle.theory.proofs.Letters.{marks-right, marks-cons}
+use Rattle.theory.proofs.Listed.{ring-ascend}
+use Rattle.theory.proofs.Lyndon.{one-letter}
+use Rattle.theory.proofs.Powers.{repeated-snoc, Rot, rot, Turn, turn, power-turn}
+use Rattle.theory.proofs.Necklaces.{smallest-rot}
 use Rattle.theory.proofs.Tops.{Top, top, under, top-of, replicate-mid, replicate-left, replicate-right, replicate-split, repeated-letter, Low, low, lyndon-low, low-below}
 use Rattle.theory.proofs.Reading.{modulo-small, modulo-full, letters-inside, letters-over}
 use Rattle.theory.proofs.Joined.{before-is}
-use Rattle.theory.proofs.Rotations.{power-is, power-length, power-self, Ring-base, ring-base, ring-base-of}
+use Rattle.theory.proofs.Rotations.{power-is, power-length, power-self, ring-base, ring-base-of}
 use Rattle.theory.proofs.Seams.{Setting}
 use Rattle.theory.proofs.Seams as seams
 

@@ -1,6 +1,5 @@
 -- Document 004's automaton for CS(w) (section 4). A state is what is left of w to be read: w itself is the state of the empty prefix,
 -- [] the accepting one. A letter equal to the next one of w goes on, a smaller one accepts, a larger one goes back to w.
-use mathlib.Core.Bool.{Bool, true, false}
 use mathlib.Core.List.{List, [], _∷_}
 use Prim.Native.Nat.{ℕ, zero, suc, _+_, _-_}
 use lib.Dec.{eqb, ltb}

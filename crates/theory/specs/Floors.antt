@@ -4,7 +4,7 @@ use mathlib.Core.List.{List, [], _∷_, _++_}
 use Prim.Native.Nat.{ℕ, zero, suc, _-_}
 use lib.Dec.{ltb}
 use lib.ListN.{length, getD, take, replicate}
-use Rattle.theory.specs.Words.{pick, same, below, upTo, smallest, keep, allWords}
+use Rattle.theory.specs.Words.{same, below, upTo, smallest, keep, allWords}
 
 -- equal to its own smallest rotation
 abbrev pub isNecklace : List ℕ → Bool

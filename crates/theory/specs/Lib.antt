@@ -1,6 +1,7 @@
 -- What the library is about: words, rings, strips, laying plans, and what is proved of them.
 pub mod Words
 pub mod Lists
+pub mod Prenecklaces
 pub mod Sums
 pub mod Floors
 pub mod Automaton

@@ -1,7 +1,6 @@
 -- The cases that document 01 marks with ●, as one sentence about the definitions.
 use mathlib.Core.Path.{_≡_}
-use mathlib.Core.List.{List, [], _∷_}
-use Prim.Native.Nat.{ℕ}
+use mathlib.Core.List.{[], _∷_}
 use Rattle.theory.specs.Words.{howMany, rank, wordOf}
 use Rattle.theory.specs.Sums.{cs}
 use Rattle.theory.specs.Strips.{strip, placeOf}

@@ -62,6 +62,13 @@ abbrev pub findOn : ℕ → ℕ → ℕ → List ℕ → ℕ → List ℕ → �
 findOn zero p size s n w = p
 findOn (suc l) p size s n w = elim (same (lettersOn size s p n) w) [ true ↦ p | false ↦ findOn l (suc p) size s n w ]
 
+-- a ring's windows: n letters from a position; the first position at which a word is read
+abbrev pub windowOn : (ℕ → Bool) → ℕ → ℕ → ℕ → List ℕ
+windowOn ok k n p = let s = ring ok k n in lettersOn (length s) s p n
+
+abbrev pub placeOn : (ℕ → Bool) → ℕ → ℕ → List ℕ → ℕ
+placeOn ok k n w = let s = ring ok k n in findOn (length s) 0 (length s) s n w
+
 -- a cursor: its ring's k and n, the word it holds, its position in that word
 pub record Cursor : Type 0 where
   pub k : ℕ

@@ -1,5 +1,5 @@
 -- The step from one Lyndon word of length at most n to the next, and back (document 003, section 1.4.2).
-use mathlib.Core.Bool.{Bool, true, false}
+use mathlib.Core.Bool.{true, false}
 use mathlib.Core.List.{List, [], _∷_, _++_}
 use Prim.Native.Nat.{ℕ, zero, suc, _-_}
 use lib.Dec.{ltb}

@@ -1,10 +1,9 @@
 -- Strips, windows, cursors. The strip is the lexicographically smallest de Bruijn sequence (document 004, section 1): the ring of
 -- all lengths that divide n. A mark is a letter of the strip, a place one of its positions; a window is n letters.
-use mathlib.Core.Bool.{Bool, true, false, _&&_}
+use mathlib.Core.Bool.{Bool, _&&_}
 use mathlib.Core.List.{List}
 use Prim.Native.Nat.{ℕ, _^_}
 use lib.Dec.{leb}
-use lib.ListN.{length}
 use Rattle.theory.specs.Rings.{divides, ringWords, ring, letterOn, lettersOn, findOn, Cursor, Stepped, goodOn, positionOn, cursorOn, nextOn, stepOn}
 
 -- admitted: k from 2 to 36, n from 1 to 60, k^n at most 2^60

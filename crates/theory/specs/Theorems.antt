@@ -1,19 +1,19 @@
 -- What is proved of the definitions, for every k and n that the hypotheses name. `Theorems`, at the end, is the whole.
 use mathlib.Core.Path.{_≡_}
-use mathlib.Core.Bool.{Bool, true, false, _&&_}
+use mathlib.Core.Bool.{Bool, true, _&&_}
 use mathlib.Core.List.{List, [], _∷_, _++_}
 use mathlib.Core.Logic.{_↔_, _≢_}
-use Prim.Native.Nat.{ℕ, suc, _+_, _-_, _*_, _/_, _^_, _≤_, _<_}
+use Prim.Native.Nat.{ℕ, suc, _+_, _-_, _*_, _^_, _≤_, _<_}
 use lib.IntN.{ℤ, pos, natAbs}
 use lib.Dec.{eqb, ltb, leb}
 use lib.ListN.{length, getD, take, drop, replicate}
-use Rattle.theory.specs.Words.{pick, same, below, upTo, turned, isLyndon, smallest, repeated, root, allWords, keep, lyndons, howMany, rank, wordOf, marksOk}
+use Rattle.theory.specs.Words.{pick, same, below, upTo, turned, isLyndon, smallest, repeated, root, allWords, keep, lyndons, howMany, rank, wordOf, marksOk, powerTo}
 use Rattle.theory.specs.Lists.{In, Ascending, Once}
 use Rattle.theory.specs.Sums.{cs, mobius, divisors, running, rankTerm, countTerm, By-sum}
 use Rattle.theory.specs.Floors.{isNecklace, necklaceUpTo, necklaceBelow, floorFrom}
 use Rattle.theory.specs.Automaton.{run, returning, pathsTo}
 use Rattle.theory.specs.Search.{leastWord}
-use Rattle.theory.specs.Rings.{upWords, lyndonsUp, divides, Allowed, ringWords, ring, modulo, letterOn, lettersOn, findOn, Cursor, goodOn, beforeW, positionOn, cursorOn, stepOn, readOn}
+use Rattle.theory.specs.Rings.{upWords, lyndonsUp, divides, Allowed, ringWords, ring, modulo, letterOn, lettersOn, Cursor, goodOn, beforeW, positionOn, cursorOn, stepOn, readOn, windowOn, placeOn}
 use Rattle.theory.specs.Steps.{extension, nextLyndon, previousLyndon, period}
 use Rattle.theory.specs.Strips.{admitted, stripWords, strip, markAt, marksFrom, window, placeOf, cursorOk, placeIn, cursorAt, stepOf}
 use Rattle.theory.specs.Plans.{planFault, sectionCount, shades, marks, sections, nthS, lookupFault, layingOf, distanceOf}
@@ -77,17 +77,6 @@ pub record Steps (k n : ℕ) : Type 0 where
   pub previous-in : (y : List ℕ) → In y (lyndonsUp k n) → y ≢ 0 ∷ [] → In (previousLyndon k n y) (lyndonsUp k n)
   pub previous-next : (x : List ℕ) → In x (lyndonsUp k n) → x ≢ (k - 1) ∷ [] → previousLyndon k n (nextLyndon k n x) ≡ x
   pub next-previous : (y : List ℕ) → In y (lyndonsUp k n) → y ≢ 0 ∷ [] → nextLyndon k n (previousLyndon k n y) ≡ y
-
--- a ring's windows: n letters from a position; the first position at which a word is read
-abbrev pub windowOn : (ℕ → Bool) → ℕ → ℕ → ℕ → List ℕ
-windowOn ok k n p = let s = ring ok k n in lettersOn (length s) s p n
-
-abbrev pub placeOn : (ℕ → Bool) → ℕ → ℕ → List ℕ → ℕ
-placeOn ok k n w = let s = ring ok k n in findOn (length s) 0 (length s) s n w
-
--- the power of length n
-abbrev pub powerTo : ℕ → List ℕ → List ℕ
-powerTo n u = repeated (n / length u) u
 
 -- Fredricksen and Maiorana's theorem for a ring (document 003, Theorem 1.5.6; document 004, Theorem 23).
 pub record Ring (ok : ℕ → Bool) (k n : ℕ) : Type 0 where

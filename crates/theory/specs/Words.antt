@@ -73,6 +73,10 @@ abbrev pub repeated : ℕ → List ℕ → List ℕ
 repeated zero u = []
 repeated (suc n) u = u ++ repeated n u
 
+-- the power of length n
+abbrev pub powerTo : ℕ → List ℕ → List ℕ
+powerTo n u = repeated (n / length u) u
+
 abbrev pub isRoot : ℕ → List ℕ → Bool
 isRoot d w = leb 1 d && (eqb (length w % d) 0 && same (repeated (length w / d) (take d w)) w)
 

@@ -1,2 +1,2 @@
--- What the moves on words ask and answer.
-pub mod Moves
+-- What the calls on words promise.
+pub mod Says

@@ -1,9 +1,9 @@
 -- `buffers::copy_turned` writes a rotation: what stands behind the turn, then what stood before it, to what is left of the buffer.
-use mathlib.Core.Path.{_≡_, sym, _∙_, ap}
+use mathlib.Core.Path.{sym}
 use Prim.Native.Nat.{_-_}
 use native.Mathlib.Omega.{arith}
-use lib.ListN.{length, take, drop, length-take, length-drop}
-use lib.Seq.{length-take-le, take-all}
+use lib.ListN.{length, take, drop, length-drop}
+use lib.Seq.{length-take-le}
 use borrow.Author.Needs.{needs}
 use Rattle.buffers.proofs.Bytes.{first-part, room-left, handed-on}
 use Rattle.buffers.proofs.copy_turned.Statement.{statement}

@@ -4,12 +4,12 @@ use Prim.Native.Nat.{suc, _-_, _≤_, _<_}
 use native.Mathlib.Omega.{arith}
 use borrow.Author.Needs.{needs}
 use Rattle.theory.specs.Plans.{sectionCount}
-use Rattle.listing.proofs.Openings.{no-fault, shaped, section-starts, line-for, first-text, later-text, no-text}
+use Rattle.listing.proofs.Openings.{section-starts, line-for, first-text, later-text, no-text}
 use Rattle.listing.proofs.accepted_line.Statement.{statement}
 use Rattle.listing.proofs.accepted_line.Tie as tie
 
 strip-line-requires : tie.Need-strip-line-requires
-strip-line-requires c κs = let f = c .before .before in shaped (f .args .plan .now) (f .pre)
+strip-line-requires c κs = let f = c .before .before in f .pre .shaped
 
 returns : tie.Need-returns
 returns c =
@@ -20,18 +20,18 @@ sub-section : tie.Need-sub-section
 sub-section c = search needs
 
 count-requires : tie.Need-count-requires
-count-requires c κs = let f = c .before .before in no-fault (f .args .plan .now) (f .pre)
+count-requires c κs = let f = c .before .before in f .pre .faultless
 
 section-at-requires : tie.Need-section-at-requires
 section-at-requires c κs =
     let f = c .before .before .before .before in
-    (no-fault (f .args .plan .now) (f .pre), omega (arith, c .if2 .taken, c .before .count .ensures))
+    (f .pre .faultless, omega (arith, c .if2 .taken, c .before .count .ensures))
 
 section-line-requires : tie.Need-section-line-requires
 section-line-requires c κs =
     let f = c .before .before .before .before .before in
     let there = section-starts (f .args .plan .now) (f .pre) (f .args .i - 1) (omega (arith, c .before .if2 .taken, c .before .before .count .ensures)) in
-    (shaped (f .args .plan .now) (f .pre), omega (arith, there, c .section-at .ensures .0))
+    (f .pre .shaped, omega (arith, there, c .section-at .ensures .0))
 
 returns-2 : tie.Need-returns-2
 returns-2 c =

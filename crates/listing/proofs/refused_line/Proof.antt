@@ -3,7 +3,7 @@ use mathlib.Core.Path.{refl}
 use mathlib.Core.List.{[], _∷_, _++_}
 use native.Mathlib.Omega.{arith}
 use borrow.Author.Needs.{needs}
-use Rattle.texts.specs.Listings.{refusedText}
+use Rattle.listing.specs.Listings.{refusedText}
 use Rattle.listing.proofs.Building.{Written, nothing, more, more-number, number-room, line-is}
 use Rattle.listing.proofs.refused_line.Statement.{statement}
 use Rattle.listing.proofs.refused_line.Tie as tie

@@ -8,7 +8,7 @@ use borrow.Author.Needs.{needs}
 use Rattle.shape.proofs.Limits.{limits}
 use Rattle.texts.specs.Texts.{decimal, glyphs}
 use Rattle.texts.proofs.Decimals.{decimal-fits}
-use Rattle.positions.proofs.Reading.{in-room}
+use Rattle.access.proofs.Reading.{in-room}
 use Rattle.listing.specs.Lines.{sectionOf}
 use Rattle.listing.proofs.Sections.{window-short, digits-short, window-digits, section-text}
 use Rattle.listing.proofs.Building.{Written, nothing, more, more-number, number-room, room, line-is}

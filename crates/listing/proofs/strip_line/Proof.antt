@@ -4,7 +4,7 @@ use mathlib.Core.List.{[], _∷_, _++_}
 use native.Mathlib.Omega.{arith}
 use borrow.Author.Needs.{needs}
 use Rattle.texts.specs.Texts.{decimal}
-use Rattle.texts.specs.Listings.{stripText}
+use Rattle.listing.specs.Listings.{stripText}
 use Rattle.listing.proofs.Building.{Written, nothing, more, more-number, number-room, line-is, strip-text, strip-fits}
 use Rattle.listing.proofs.strip_line.Statement.{statement}
 use Rattle.listing.proofs.strip_line.Tie as tie

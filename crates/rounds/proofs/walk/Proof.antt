@@ -1,8 +1,6 @@
 -- `rounds::walk` steps a cursor so many times.
 use Prim.Native.Nat.{_-_, _≤_}
-use mathlib.Core.Path.{_≡_}
 use native.Mathlib.Omega.{arith}
-use lib.ListN.{length}
 use Rattle.rounds.proofs.walk.Statement.{statement}
 use Rattle.rounds.proofs.walk.Tie as tie
 

@@ -1,6 +1,6 @@
 -- `strides::stride` steps a cursor a million times.
 use Prim.Native.Nat.{_-_, _*_, _≤_}
-use mathlib.Core.Path.{_≡_, refl}
+use mathlib.Core.Path.{refl}
 use native.Mathlib.Omega.{arith}
 use Rattle.strides.proofs.stride.Statement.{statement}
 use Rattle.strides.proofs.stride.Tie as tie

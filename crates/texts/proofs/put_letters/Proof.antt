@@ -6,7 +6,7 @@ use lib.ListN.{length, take, length-set}
 use Rattle.theory.proofs.Letters.{marks-getD}
 use Rattle.texts.specs.Texts.{Adds, glyphs}
 use Rattle.texts.proofs.Adding.{adds-start, adds-next, adds-all}
-use Rattle.texts.proofs.Lines.{glyphs-length, glyphs-at}
+use Rattle.texts.proofs.Digits.{glyphs-length, glyphs-at}
 use Rattle.texts.proofs.put_letters.Statement.{statement}
 use Rattle.texts.proofs.put_letters.Tie as tie
 

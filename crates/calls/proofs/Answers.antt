@@ -1,0 +1,47 @@
+-- The form of an answer, for any fault f: a refusal, a tray that is too small, the answer itself.
+use mathlib.Core.Path.{_≡_, refl, sym, _∙_, ap₂}
+use mathlib.Core.List.{List, [], _++_}
+use Prim.Native.Nat.{ℕ, zero, suc, _≤_, _<_}
+use lib.Dec.{eqb}
+use lib.ListN.{length, drop}
+use borrow.Author.Tests.{lt-ltb, le-ltb, ne-eqb}
+use Rattle.theory.specs.Words.{pick}
+use Rattle.buffers.specs.Buffers.{putBe, over}
+use Rattle.calls.specs.declared.Value as DV
+use Rattle.calls.specs.Answers.{Into, Number, ValueIs}
+
+-- a number and a value
+pub value-refused : {f x : ℕ} (v : ℕ) {r : DV.Value} → f ≡ x → ¬ (x ≡ 0) → (r .number ≡ x) × (r .value ≡ 0) → ValueIs f v r
+value-refused {f} {x} v h z e = rw (h, ne-eqb x 0 z) e
+
+pub value-answer : {f x : ℕ} {v : ℕ} {r : DV.Value} → f ≡ 0 → x ≡ v → (r .number ≡ 0) × (r .value ≡ x) → ValueIs f v r
+value-answer h g e = rw h (e .0, e .1 ∙ g)
+
+-- bytes into a tray
+pub into-refused : {f r : ℕ} (b t : List ℕ) {t′ : List ℕ} → f ≡ r → ¬ (r ≡ 0) → t′ ≡ t → Into f (pick (eqb f 0) b []) t t′ r
+into-refused {r = zero} b t h z g = absurd (z refl)
+into-refused {r = suc r} b t h z g = rw (h, ne-eqb (suc r) 0 z) (refl, g)
+
+pub into-small : {f r : ℕ} (b t : List ℕ) {t′ : List ℕ} → f ≡ 0 → length t < length b → r ≡ 6 → t′ ≡ t → Into f (pick (eqb f 0) b []) t t′ r
+into-small b t h l e g = rw (h, lt-ltb (length t) (length b) l) (e, g)
+
+pub into-answer : {f r : ℕ} (b t : List ℕ) {t′ : List ℕ} → f ≡ 0 → length b ≤ length t → r ≡ 0 → t′ ≡ over b t → Into f (pick (eqb f 0) b []) t t′ r
+into-answer b t h l e g = rw (h, le-ltb (length t) (length b) l) (e, g)
+
+-- a number's 8 bytes into a tray
+pub number-refused : {f r : ℕ} (v : ℕ) (t : List ℕ) {t′ : List ℕ} → f ≡ r → ¬ (r ≡ 0) → t′ ≡ t → Number f v t t′ r
+number-refused v t h z g = into-refused (putBe 8 v) t h z g
+
+pub number-small : {f r : ℕ} (v : ℕ) (t : List ℕ) {t′ : List ℕ} → f ≡ 0 → length t < 8 → r ≡ 6 → t′ ≡ t → Number f v t t′ r
+number-small v t h l e g = into-small (putBe 8 v) t h l e g
+
+pub number-answer : {f r : ℕ} (v : ℕ) (t : List ℕ) {t′ : List ℕ} → f ≡ 0 → 8 ≤ length t → r ≡ 0 → t′ ≡ over (putBe 8 v) t → Number f v t t′ r
+number-answer v t h l e g = into-answer (putBe 8 v) t h l e g
+
+-- a number that was given, where nothing was refused before
+pub number-given : {f r v x : ℕ} (t : List ℕ) {t′ : List ℕ} → f ≡ 0 → x ≡ v → Number 0 x t t′ r → Number f v t t′ r
+number-given t {t′} h e g = rw (h, sym e) g
+
+-- bytes written over the first part of a tray
+pub part-over : {b x : List ℕ} {n : ℕ} (t : List ℕ) → x ≡ b → length b ≡ n → x ++ drop n t ≡ over b t
+part-over {b} t e h = ap₂ (λ y m. y ++ drop m t) e (sym h)

@@ -1,0 +1,3 @@
+-- Laws of checked arguments and of answers.
+pub mod Checks
+pub mod Answers

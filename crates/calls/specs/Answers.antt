@@ -1,0 +1,21 @@
+-- The form of an answer. A tray is an output buffer that the caller lends; t is what it holds at the call, t′ at the return.
+use mathlib.Core.Path.{_≡_}
+use mathlib.Core.List.{List, []}
+use Prim.Native.Nat.{ℕ}
+use lib.Dec.{eqb, ltb}
+use lib.ListN.{length}
+use Rattle.theory.specs.Words.{pick, firstOf, when}
+use Rattle.buffers.specs.Buffers.{putBe, over}
+use Rattle.calls.specs.declared.Value as DV
+
+-- an answer into a tray: its bytes, or the number with the tray as before
+abbrev pub Into : ℕ → List ℕ → List ℕ → List ℕ → ℕ → Type 0
+Into f b t t′ r = let n = firstOf f (when (ltb (length t) (length b)) 6) in (r ≡ n) × (t′ ≡ pick (eqb n 0) (over b t) t)
+
+-- a number as 8 bytes
+abbrev pub Number : ℕ → ℕ → List ℕ → List ℕ → ℕ → Type 0
+Number f v t t′ r = Into f (pick (eqb f 0) (putBe 8 v) []) t t′ r
+
+-- a number and a value; a refusal's value is 0
+abbrev pub ValueIs : ℕ → ℕ → DV.Value → Type 0
+ValueIs f v r = (r .number ≡ f) × (r .value ≡ pick (eqb f 0) v 0)

@@ -1,0 +1,24 @@
+-- The numbers that a call gives back, and their order: 7, 1, 8, 10, 2, 3, 4, 5, 9, 6. Each call takes the first that applies.
+use mathlib.Core.Bool.{_||_, not}
+use mathlib.Core.List.{List}
+use Prim.Native.Nat.{ℕ, _^_}
+use lib.Dec.{eqb, ltb, leb}
+use Rattle.theory.specs.Words.{firstOf, when, howMany}
+use Rattle.theory.specs.Strips.{admitted}
+use Rattle.theory.specs.Plans.{wordFault}
+
+-- 1: no such strip
+abbrev pub stripFault : ℕ → ℕ → ℕ
+stripFault k n = when (not (admitted k n)) 1
+
+-- 1, then 2: the word does not have n marks, then 3: a mark is k or more
+abbrev pub theWordFault : ℕ → ℕ → List ℕ → ℕ
+theWordFault k n w = firstOf (stripFault k n) (wordFault k n w)
+
+-- 1, then 5: no word has that index
+abbrev pub indexFault : ℕ → ℕ → ℕ → ℕ
+indexFault k n i = firstOf (stripFault k n) (when (eqb i 0 || ltb (howMany k n) i) 5)
+
+-- 1, then 4: the place is not below k^n
+abbrev pub placeFault : ℕ → ℕ → ℕ → ℕ
+placeFault k n p = firstOf (stripFault k n) (when (leb (k ^ n) p) 4)

@@ -1,0 +1,2 @@
+-- Words that can be lowered.
+pub mod Lowering

@@ -1,0 +1,90 @@
+-- The lookup in a plan: its faults in their order, and what an accepted plan makes of the word, the place and the section.
+use mathlib.Core.Path.{_≡_, sym, _∙_, ap, ap₂, subst}
+use mathlib.Core.List.{List}
+use Prim.Native.Nat.{ℕ, _-_, _^_, _≤_, _<_}
+use native.Mathlib.Omega.{arith}
+use lib.Dec.{eqb}
+use borrow.Author.Tests.{ne-eqb}
+use Rattle.theory.specs.Words.{firstOf, when}
+use Rattle.theory.specs.Strips.{placeOf}
+use Rattle.theory.specs.Plans.{shades, marks, sections, sectionCount, nthS, planFault, wordFault, layingFrom, layingOf, distanceOf, lookupFault}
+use Rattle.theory.proofs.Laying.{laid-only}
+use Rattle.theory.proofs.Rings.{one-place}
+use Rattle.shape.specs.declared.Strip as DS
+use Rattle.shape.specs.Shapes.{WordOn}
+use Rattle.shape.proofs.Limits.{limits}
+use Rattle.calls.specs.declared.Checked.{Checked}
+use Rattle.calls.specs.declared.Checked.the-variants.{Strip, Refused}
+use Rattle.calls.specs.Refusals.{stripFault, theWordFault}
+use Rattle.calls.specs.Checks.{checkedBy}
+use Rattle.calls.proofs.Checks.{first-some, first-none, refused-by, passed, word-fine}
+use Rattle.plans.specs.Opened.{openedOf, Accepted}
+
+-- a refused plan
+pub plan-fault : (s w : List ℕ) {c : Checked} {f : ℕ} → c ≡ openedOf s → c ≡ Refused f → (lookupFault s w ≡ f) × ¬ (f ≡ 0)
+plan-fault s w e g =
+    let (is, some) = refused-by (planFault s) (shades s) (marks s) e g in
+    (first-some (planFault s) _ (λ z. some (sym is ∙ z)) ∙ is, some)
+
+-- on an accepted plan, with the strip x that it is laid on; c is the check of the word there
+module _ {s : List ℕ} {x : DS.Strip} (a : Accepted s x) (w : List ℕ) {c : Checked} (e : c ≡ checkedBy (theWordFault (x .k) (x .n) w) (x .k) (x .n)) where
+  -- the strip has no fault, so what is left is the word's
+  word-is : theWordFault (x .k) (x .n) w ≡ wordFault (shades s) (marks s) w
+  word-is =
+      let none : stripFault (x .k) (x .n) ≡ 0 = rw (a .shaped .admit) in
+      ap (λ f. firstOf f (wordFault (x .k) (x .n) w)) none ∙ ap₂ (λ k n. wordFault k n w) (a .letters) (a .marked)
+
+  rest : lookupFault s w ≡ firstOf (wordFault (shades s) (marks s) w) (when (eqb (layingOf s w) 0) 9)
+  rest = ap (λ f. firstOf f (firstOf (wordFault (shades s) (marks s) w) (when (eqb (layingOf s w) 0) 9))) (a .faultless)
+
+  pub word-fault : {f : ℕ} → c ≡ Refused f → (lookupFault s w ≡ f) × ¬ (f ≡ 0)
+  word-fault g =
+      let (is, some) = refused-by (theWordFault (x .k) (x .n) w) (x .k) (x .n) e g in
+      let fault : wordFault (shades s) (marks s) w ≡ _ = sym word-is ∙ is in
+      (rest ∙ first-some (wordFault (shades s) (marks s) w) _ (λ z. some (sym fault ∙ z)) ∙ fault, some)
+
+  pub word-on-strip : {y : DS.Strip} → c ≡ Strip y → WordOn x w
+  word-on-strip g = let word = word-fine (x .k) (x .n) w (first-none (stripFault (x .k) (x .n)) _ (passed (theWordFault (x .k) (x .n) w) (x .k) (x .n) e g .0) .1) in record { shaped = a .shaped; long = word .0; marks = word .1 }
+
+  pub place-small : {p : ℕ} → WordOn x w → p ≡ placeOf (x .k) (x .n) w → p < 2 ^ 60
+  place-small on e = let l = limits (on .shaped) in omega (arith, e, l .range, one-place .found (x .k) (x .n) w (l .two) (l .some) (on .long) (on .marks) .0)
+
+  pub word-passed : {y : DS.Strip} → c ≡ Strip y → lookupFault s w ≡ when (eqb (layingOf s w) 0) 9
+  word-passed g = rest ∙ ap (λ f. firstOf f (when (eqb (layingOf s w) 0) 9)) (sym word-is ∙ passed (theWordFault (x .k) (x .n) w) (x .k) (x .n) e g .0)
+
+-- the word without fault, its place p, and the laying l that was found for it
+pub record Looked (s w : List ℕ) (x : DS.Strip) (p l : ℕ) : Type 0 where
+  pub plan : Accepted s x
+  pub fault-left : lookupFault s w ≡ when (eqb (layingOf s w) 0) 9
+  pub at : p ≡ placeOf (x .k) (x .n) w
+  pub found : l ≡ layingFrom 0 p (marks s) (sections s)
+
+module _ {s w : List ℕ} {x : DS.Strip} {p l : ℕ} (looked : Looked s w x p l) where
+  place-is : p ≡ placeOf (shades s) (marks s) w
+  place-is = looked .at ∙ ap₂ (λ k n. placeOf k n w) (looked .plan .letters) (looked .plan .marked)
+
+  laying-is : l ≡ layingOf s w
+  laying-is = looked .found ∙ ap (λ q. layingFrom 0 q (marks s) (sections s)) place-is
+
+  pub nowhere : l ≡ 0 → lookupFault s w ≡ 9
+  nowhere z = looked .fault-left ∙ ap (λ y. when (eqb y 0) 9) (sym laying-is ∙ z)
+
+  module _ (some : ¬ (l ≡ 0)) where
+    pub laid-fine : lookupFault s w ≡ 0
+    laid-fine = looked .fault-left ∙ ap (λ t. when t 9) (ne-eqb (layingOf s w) 0 (λ z. some (laying-is ∙ z)))
+
+    pub section-inside : l - 1 < sectionCount s
+    section-inside = subst (λ y. y - 1 < sectionCount s) (sym laying-is) (laid-only s w laid-fine .0)
+
+    pub section-number : l - 1 ≡ layingOf s w - 1
+    section-number = ap (λ y. y - 1) laying-is
+
+    module _ {o : ℕ} (offset : o ≡ nthS (sections s) (l - 1) .offset) where
+      offset-is : o ≡ nthS (sections s) (layingOf s w - 1) .offset
+      offset-is = offset ∙ ap (λ i. nthS (sections s) i .offset) section-number
+
+      pub starts-before : o ≤ p
+      starts-before = omega (arith, offset-is, place-is, laid-only s w laid-fine .1)
+
+      pub distance-is : p - o ≡ distanceOf s w
+      distance-is = ap₂ _-_ place-is offset-is

@@ -1,0 +1,2 @@
+-- Laws of the lookup in a plan.
+pub mod Laying

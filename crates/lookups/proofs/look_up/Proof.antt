@@ -1,0 +1,47 @@
+-- `look_up` opens the plan, and looks the window up in one that is accepted; a refusal leaves the tray as it was.
+use mathlib.Core.Path.{refl}
+use mathlib.Core.List.{_++_}
+use Prim.Native.Nat.{_-_}
+use borrow.Author.Needs.{needs}
+use Rattle.theory.specs.Plans.{layingOf, distanceOf}
+use Rattle.buffers.specs.Buffers.{putBe}
+use Rattle.calls.proofs.Answers.{into-refused}
+use Rattle.plans.proofs.Opening.{accepted}
+use Rattle.lookups.proofs.Laying.{plan-fault}
+use Rattle.lookups.proofs.look_up.Statement.{statement}
+use Rattle.lookups.proofs.look_up.Tie as tie
+
+open-requires : tie.Need-open-requires
+open-requires c κs = search needs
+
+enum-known-number : tie.Need-enum-known-number
+enum-known-number c = search needs
+
+enum-known-strip : tie.Need-enum-known-strip
+enum-known-strip c = search needs
+
+look-in-requires : tie.Need-look-in-requires
+look-in-requires c κs =
+    let known = c .before in
+    let opened = known .before .before .before in
+    accepted (opened .before .before .before .before .args .plan .now) (opened .open .ensures) (known .before .strip .given .1)
+
+returns : tie.Need-returns
+returns c =
+    let opened = c .before .before .before in
+    let a = opened .before .before .before .before .args in
+    let s = a .plan .now in
+    let w = a .window .now in
+    let (is, some) = plan-fault s w (opened .open .ensures) (c .before .number .given .1) in
+    into-refused (putBe 2 (layingOf s w - 1) ++ putBe 8 (distanceOf s w)) (a .tray .now) is some refl
+
+same-length : tie.Need-same-length
+same-length c = search needs
+
+returns-2 : tie.Need-returns-2
+returns-2 c = c .before .before .look-in .ensures
+
+pub look-up-spec : {M : Type 1} → statement M
+look-up-spec =
+    tie.close
+    (tie.spec open-requires enum-known-number enum-known-strip look-in-requires returns same-length returns-2)

@@ -1,0 +1,2 @@
+-- What the calls on plans promise.
+pub mod Says

@@ -1,0 +1,2 @@
+-- Words of letters below k, as the code asks for them.
+pub mod Letters

@@ -1,0 +1,2 @@
+-- Laws of printed marks.
+pub mod Prints

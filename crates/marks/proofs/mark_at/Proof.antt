@@ -1,0 +1,56 @@
+-- `mark_at` puts the mark at a place into the tray as 8 bytes; a refusal leaves the tray as it was.
+use mathlib.Core.Path.{refl, _∙_, ap₂}
+use borrow.Author.Needs.{needs}
+use Rattle.theory.specs.Strips.{markAt}
+use Rattle.calls.specs.Refusals.{placeFault}
+use Rattle.calls.proofs.Checks.{refused-by, passed, place-checked}
+use Rattle.calls.proofs.Answers.{number-refused, number-given}
+use Rattle.marks.proofs.mark_at.Statement.{statement}
+use Rattle.marks.proofs.mark_at.Tie as tie
+
+check-place-requires : tie.Need-check-place-requires
+check-place-requires c κs = search needs
+
+enum-known-number : tie.Need-enum-known-number
+enum-known-number c = search needs
+
+enum-known-strip : tie.Need-enum-known-strip
+enum-known-strip c = search needs
+
+letter-requires : tie.Need-letter-requires
+letter-requires c κs =
+    let a = c .before .before .before .before .before .args in
+    let (on, inside) = place-checked (a .k) (a .n) (a .place) (c .before .before .before .check-place .ensures) (c .before .strip .given .1) in
+    (on .shaped, inside)
+
+cast-give : tie.Need-cast-give
+cast-give c = search needs
+
+give-requires : tie.Need-give-requires
+give-requires c κs = search needs
+
+returns : tie.Need-returns
+returns c =
+    let checked = c .before .before .before in
+    let a = checked .before .before .args in
+    let (is, some) = refused-by (placeFault (a .k) (a .n) (a .place)) (a .k) (a .n) (checked .check-place .ensures) (c .before .number .given .1) in
+    number-refused (markAt (a .k) (a .n) (a .place)) (a .tray .now) is some refl
+
+same-length : tie.Need-same-length
+same-length c = search needs
+
+returns-2 : tie.Need-returns-2
+returns-2 c =
+    let given = c .before .before in
+    let read = given .before .before in
+    let known = read .before in
+    let checked = known .before .before .before in
+    let a = checked .before .before .args in
+    let none = passed (placeFault (a .k) (a .n) (a .place)) (a .k) (a .n) (checked .check-place .ensures) (known .before .strip .given .1) .0 in
+    let on = place-checked (a .k) (a .n) (a .place) (checked .check-place .ensures) (known .before .strip .given .1) .0 in
+    number-given (a .tray .now) none (read .letter .ensures ∙ ap₂ (λ k n. markAt k n (a .place)) (on .letters) (on .marks)) (given .give .ensures)
+
+pub mark-at-spec : {M : Type 1} → statement M
+mark-at-spec =
+    tie.close
+    (tie.spec check-place-requires enum-known-number enum-known-strip letter-requires cast-give give-requires returns same-length returns-2)

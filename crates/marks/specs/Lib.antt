@@ -1,0 +1,2 @@
+-- What the calls on marks promise.
+pub mod Says

@@ -1,2 +1,0 @@
--- The numbers that a call gives back, and their order.
-pub mod Refusals

@@ -1,0 +1,2 @@
+-- What the moves along the ring ask and answer.
+pub mod Moves

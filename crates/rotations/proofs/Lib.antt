@@ -1,0 +1,3 @@
+-- Laws of rotations and of roots.
+pub mod Turns
+pub mod Roots

@@ -1,0 +1,5 @@
+-- Laws of the search for a word, letter by letter.
+pub mod Goals
+pub mod Tries
+pub mod Searches
+pub mod Fills

@@ -1,0 +1,2 @@
+-- Laws of the step to the next Lyndon word.
+pub mod Stepping

@@ -1,0 +1,2 @@
+-- What the step to the next Lyndon word asks and answers.
+pub mod Steps

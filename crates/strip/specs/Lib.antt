@@ -1,2 +1,0 @@
--- What the public calls promise.
-pub mod Says

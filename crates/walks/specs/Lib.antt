@@ -1,2 +1,0 @@
--- What the moves along the strip ask and answer.
-pub mod Walks
