@@ -3,11 +3,27 @@
    round trips. Exits 1 if anything is wrong. */
 #include "../include/strip.h"
 #include "lent.h"
+#include <limits.h>
 
 enum { RANK, WORD, MARK, PLACE, PRINT, LOOK, CALLS };
-enum { LONGEST = 60, MOST_WORD = 96, MOST_TRAY = 6000, MOST_PLAN = 9000 };
+enum { SHADES = 36, LONGEST = 60, MOST_SECTIONS = 500, NUMBER = 8, LAYING = 10 };
+enum { MOST_WORD = 96, MOST_TRAY = 6000, MOST_PLAN = 9000 };
+#define MOST_PLACES ((uint64_t)1 << 60)
 static const char *const NAMES[CALLS] = {"rank_of", "word_of", "mark_at", "place_of", "print_marks", "look_up"};
-static const unsigned ORDER[] = {7, 1, 8, 10, 2, 3, 4, 5, 9, 6};
+
+/* The order of the refusals. Those that apply are a mask with a bit for each number; what is counted by number has room for every bit. */
+#define IN_ORDER(X) X(7) X(1) X(8) X(10) X(2) X(3) X(4) X(5) X(9) X(6)
+#define LISTED(number) number,
+#define HAS_A_BIT(number) && (number) < BITS
+enum { BITS = sizeof(unsigned) * CHAR_BIT };
+static const unsigned ORDER[] = {IN_ORDER(LISTED)};
+_Static_assert(1 IN_ORDER(HAS_A_BIT), "a refusal's number has no bit in a mask");
+
+/* What the header tells a host is what is tried here. */
+_Static_assert(STRIP_MOST_SHADES == SHADES && STRIP_MOST_MARKS == LONGEST && STRIP_MOST_PLACES == MOST_PLACES, "limits of a strip");
+_Static_assert(STRIP_MOST_SECTIONS == MOST_SECTIONS && STRIP_MOST_PLAN == 4 + 16 * MOST_SECTIONS, "limits of a plan");
+_Static_assert(STRIP_NUMBER == NUMBER && STRIP_LAYING == LAYING, "bytes of an answer");
+_Static_assert(MOST_PLAN >= 4 + 16 * (MOST_SECTIONS + 1) + 16, "a plan of one section too many, and a longer one, have room");
 
 struct ask {
     int call, kind;
@@ -17,7 +33,7 @@ struct ask {
 };
 
 static struct room input_room, plan_room, tray_room;
-static unsigned long refused[16], failures, round_trips;
+static unsigned long refused[BITS], failures, round_trips;
 
 static void fail(const struct ask *a, const char *what, unsigned given, unsigned wanted) {
     if (failures++ >= 20) return;
@@ -34,9 +50,9 @@ static void fail(const struct ask *a, const char *what, unsigned given, unsigned
 
 static int admitted(uint64_t k, uint64_t n, uint64_t *places) {
     *places = 1;
-    if (k < 2 || k > 36 || n < 1 || n > 60) return 0;
+    if (k < 2 || k > SHADES || n < 1 || n > LONGEST) return 0;
     for (uint64_t i = 0; i < n; i++) {
-        if (*places > ((uint64_t)1 << 60) / k) return 0;
+        if (*places > MOST_PLACES / k) return 0;
         *places *= k;
     }
     return 1;
@@ -90,7 +106,7 @@ static void put_number(uint8_t *at, uint64_t value, int length) {
 
 static unsigned plan_faults(const uint8_t *plan, size_t length) {
     uint64_t places, end = 0;
-    if (length < 4 || number_in(plan + 2, 2) > 500 || length != 4 + 16 * number_in(plan + 2, 2)) return 1u << 7;
+    if (length < 4 || number_in(plan + 2, 2) > MOST_SECTIONS || length != 4 + 16 * number_in(plan + 2, 2)) return 1u << 7;
     if (!admitted(plan[0], plan[1], &places)) return 1u << 1;
     for (size_t at = 4; at < length; at += 16) {
         uint64_t offset = number_in(plan + at, 8), size = number_in(plan + at + 8, 8);
@@ -118,7 +134,7 @@ static uint64_t place_by_library(uint64_t k, uint64_t n, const uint8_t *window) 
 }
 
 static unsigned look_faults(const struct ask *a) {
-    uint8_t answer[10];
+    uint8_t answer[LAYING];
     unsigned faults = plan_faults(a->plan, a->plan_length);
     if (faults & 1u << 7) return faults;
     faults |= word_faults(a->plan[0], a->plan[1], a->input, a->input_length);
@@ -128,7 +144,7 @@ static unsigned look_faults(const struct ask *a) {
 
 static size_t answer_length(const struct ask *a) {
     size_t marks = a->marks > SIZE_MAX ? SIZE_MAX : (size_t)a->marks;
-    return a->call == WORD ? (size_t)a->n : a->call == PRINT ? marks : a->call == LOOK ? 10 : 8;
+    return a->call == WORD ? (size_t)a->n : a->call == PRINT ? marks : a->call == LOOK ? LAYING : NUMBER;
 }
 
 /* the refusals that apply, 1 << number each; of a place or an index only over an admitted strip, of a tray only if nothing else applies */
@@ -151,7 +167,9 @@ static unsigned faults_of(const struct ask *a) {
 static unsigned first_of(unsigned faults) {
     for (size_t i = 0; i < sizeof ORDER / sizeof *ORDER; i++)
         if (faults & 1u << ORDER[i]) return ORDER[i];
-    return 0;
+    if (faults == 0) return 0;
+    fprintf(stderr, "hostile: the order lacks a refusal\n");
+    exit(3);
 }
 
 /* Answers by round trips */
@@ -204,8 +222,8 @@ static int sound(const struct ask *a, const uint8_t *answer) {
     case PLACE: return sound_place(a, number_in(answer, 8));
     case PRINT: return sound_print(a, answer);
     }
-    uint8_t right[10];
-    return laid(a, place_by_library(a->plan[0], a->plan[1], a->input), right) && memcmp(answer, right, 10) == 0;
+    uint8_t right[LAYING];
+    return laid(a, place_by_library(a->plan[0], a->plan[1], a->input), right) && memcmp(answer, right, LAYING) == 0;
 }
 
 /* One call */
@@ -464,9 +482,9 @@ int main(int count, char **arguments) {
     all_sets();
     all_plan_sets();
     for (unsigned long i = 0; i < inputs; i++) draw_call();
-    for (unsigned i = 0; i <= 10; i++) total += refused[i];
+    for (unsigned i = 0; i < BITS; i++) total += refused[i];
     printf("%lu hostile calls;", total);
-    for (unsigned i = 0; i <= 10; i++)
+    for (unsigned i = 0; i < BITS; i++)
         if (refused[i] != 0) printf(" number %u: %lu,", i, refused[i]);
     printf(" %lu answers tried by round trips, %lu calls wrong\n", round_trips, failures);
     return failures != 0;

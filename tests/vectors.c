@@ -3,7 +3,7 @@
 #include "../include/strip.h"
 #include "lent.h"
 
-enum { MOST_BYTES = 1 << 14, CALLS = 6 };
+enum { MOST_BYTES = 1 << 14, MOST_TRAY = 64, CALLS = 6 };
 static const char *const NAMES[CALLS] = {"rank", "word", "mark", "place", "print", "look"};
 
 struct vector {
@@ -13,6 +13,10 @@ struct vector {
     uint8_t input[MOST_BYTES], plan[MOST_BYTES], answer[MOST_BYTES];
     unsigned refusal;
 };
+
+/* Numbers that the model takes for granted are those of the header. */
+_Static_assert(STRIP_FINE == 0 && STRIP_TRAY_TOO_SMALL == 6, "the refusal of a tray");
+_Static_assert(STRIP_MOST_PLAN < MOST_BYTES && STRIP_MOST_MARKS < MOST_TRAY && STRIP_LAYING < MOST_TRAY, "room for plans and answers");
 
 static struct room input_room, plan_room, tray_room;
 static unsigned long compared[CALLS], failures;
@@ -47,6 +51,16 @@ static size_t bytes_field(uint8_t *into) {
     return length;
 }
 
+/* the bytes of an answer, as the header states them */
+static uint64_t answer_bytes(void) {
+    switch (v.call) {
+    case 1: return v.n;
+    case 4: return v.marks;
+    case 5: return STRIP_LAYING;
+    }
+    return STRIP_NUMBER;
+}
+
 static void parse(char *line) {
     const char *name = strtok(line, " \n");
     v.call = 0;
@@ -64,6 +78,7 @@ static void parse(char *line) {
     if (v.call == 4) v.marks = number_field();
     v.refusal = (unsigned)number_field();
     v.answer_length = bytes_field(v.answer);
+    if (v.answer_length != (v.refusal == STRIP_FINE ? answer_bytes() : 0)) bad_line("an answer is not as long as the header says");
 }
 
 static unsigned call(const struct lent *input, const struct lent *plan, const struct lent *tray) {
@@ -84,7 +99,7 @@ static void compare(size_t tray_length, unsigned long line) {
     struct lent input = lend_copy(input_room, v.input, v.input_length, kind);
     struct lent plan = lend_copy(plan_room, v.plan, v.plan_length, kind);
     struct lent tray = lend(tray_room, tray_length, kind);
-    unsigned refusal = v.refusal == 0 && tray_length < v.answer_length ? 6 : v.refusal;
+    unsigned refusal = v.refusal == 0 && tray_length < v.answer_length ? STRIP_TRAY_TOO_SMALL : v.refusal;
     unsigned given = call(&input, &plan, &tray);
     int right = given == refusal && holds(&tray, v.answer, refusal == 0 ? v.answer_length : 0) && holds(&input, v.input, v.input_length) &&
                 holds(&plan, v.plan, v.plan_length);
@@ -99,7 +114,7 @@ static void compare(size_t tray_length, unsigned long line) {
 
 /* refused ones with trays of any length, so that 6 comes after all others */
 static void compare_all(unsigned long line) {
-    static const size_t lengths[] = {0, 7, 64};
+    static const size_t lengths[] = {0, STRIP_NUMBER - 1, MOST_TRAY};
     if (v.refusal != 0) {
         for (size_t i = 0; i < 3; i++) compare(lengths[i], line);
         return;

@@ -1,0 +1,38 @@
+/* What the example hosts share: numbers in a tray, marks as they are written, and a window looked up in a plan. */
+#ifndef MARKS_H
+#define MARKS_H
+#include "strip.h"
+#include <stdio.h>
+
+/* A number in a tray, the highest byte first. */
+static uint64_t number(const uint8_t *bytes, size_t count)
+{
+    uint64_t value = 0;
+    for (size_t i = 0; i < count; i++)
+        value = value << 8 | bytes[i];
+    return value;
+}
+
+/* Marks as they are written, 0 to 9 then a to z; any other character becomes a mark that every strip refuses. */
+static size_t marks_of(const char *text, uint8_t *marks, size_t room)
+{
+    size_t count = 0;
+    for (; count < room && text[count] != '\0'; count++) {
+        char c = text[count];
+        marks[count] = (uint8_t)(c >= '0' && c <= '9' ? c - '0' : c >= 'a' && c <= 'z' ? c - 'a' + 10 : 255);
+    }
+    return count;
+}
+
+/* Prints where a window stands in a plan, or why that is not told. One mark more than any strip has is enough to be refused. */
+static void look(const uint8_t *plan, size_t plan_len, const char *text)
+{
+    uint8_t window[STRIP_MOST_MARKS + 1], tray[STRIP_LAYING];
+    size_t count = marks_of(text, window, sizeof window);
+    uint8_t refused = look_up(plan, plan_len, window, count, tray, sizeof tray);
+    if (refused != STRIP_FINE)
+        printf("%s: refused %u, %s\n", text, refused, strip_meaning(refused));
+    else
+        printf("%s: section %llu, distance %llu\n", text, (unsigned long long)number(tray, 2), (unsigned long long)number(tray + 2, 8));
+}
+#endif
