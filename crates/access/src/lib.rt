@@ -22,7 +22,7 @@ fn holder(s: Strip, p: u64, v: &mut [u8]) -> Spot
     ensures { λ r. ⌜ HoldsAt s p (now (v .exit)) r ⌝ }
 {
     search::find(s, Goal::Position(p), v);
-    let mut t = [0u64; 3721];
+    let mut t = [0u64; automaton::CELLS];
     let end = automaton::whole(s.k, v, s.size, &mut t);
     let long = rotations::shortest_root(v);
     let at = p + long as u64 - end;
@@ -48,7 +48,7 @@ pub fn letter(s: Strip, p: u64) -> u8
     requires { ⌜ Shaped s × (p < s .size) ⌝ }
     ensures { λ r. ⌜ r ≡ markAt (s .k) (s .n) p ⌝ }
 {
-    let mut room = [0u8; 60];
+    let mut room = [0u8; Strip::LONGEST];
     let v = &mut room[..s.n as usize];
     let spot = holder(s, p, v);
     let at = spot.at;
@@ -60,7 +60,7 @@ pub fn letters(s: Strip, p: u64, out: &mut [u8])
     requires { ⌜ Shaped s × (p < s .size) ⌝ }
     ensures { λ _. ⌜ now (out .exit) ≡ marksFrom (s .k) (s .n) p (length (now (out .entry))) ⌝ }
 {
-    let mut room = [0u8; 60];
+    let mut room = [0u8; Strip::LONGEST];
     let v = &mut room[..s.n as usize];
     let spot = holder(s, p, v);
     rings::write_from(s, v, spot.long, spot.at, out);
@@ -72,7 +72,7 @@ pub fn position(s: Strip, v: &mut [u8], long: usize, at: usize) -> u64
     ensures { λ r. ⌜ r ≡ placeIn (cursor (s .k) (s .n) (take long (now (v .entry))) at) ⌝ }
 {
     steps::extend(v, long);
-    let mut t = [0u64; 3721];
+    let mut t = [0u64; automaton::CELLS];
     let end = automaton::whole(s.k, v, s.size, &mut t);
     end - long as u64 + at as u64
 }

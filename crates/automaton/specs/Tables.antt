@@ -9,6 +9,10 @@ use Rattle.theory.specs.Rings.{divides}
 use Rattle.theory.specs.Sums.{cs}
 use Rattle.theory.specs.Automaton.{returning}
 
+-- the cells of a table: 61 lengths of 61 states
+abbrev pub cells : ℕ
+cells = 3721
+
 -- a word of at most 60 letters below k, with k^n in range
 pub record Counted (k : ℕ) (w : List ℕ) : Type 0 where
   pub two : 2 ≤ k
@@ -19,13 +23,13 @@ pub record Counted (k : ℕ) (w : List ℕ) : Type 0 where
 
 -- the first row, length 0: of the states up to n only state 0 is home
 pub record Started (n : ℕ) (t : List ℕ) : Type 0 where
-  pub size : length t ≡ 3721
+  pub size : length t ≡ cells
   pub home : getD t 0 0 ≡ 1
   pub away : (s : ℕ) → 1 ≤ s → s ≤ n → getD t s 0 ≡ 0
 
 -- the entry of length l and state s is the number of words of length l that lead from state s home
 pub record Filled (k : ℕ) (w t : List ℕ) : Type 0 where
-  pub size : length t ≡ 3721
+  pub size : length t ≡ cells
   pub entry : (s l : ℕ) → s + l ≤ length w → getD t (l * 61 + s) 0 ≡ returning k w s l
 
 -- the entries of states below q on the antidiagonal of d

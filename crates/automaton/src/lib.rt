@@ -5,14 +5,17 @@ ghost use Prim.Native.Nat.{_^_, _≤_, _<_};
 ghost use lib.ListN.{length};
 ghost use Rattle.theory.specs.Sums.{cs};
 ghost use Rattle.theory.specs.Prenecklaces.{Prenecklace};
-ghost use Rattle.automaton.specs.Tables.{Counted, Started, Filled, diagonalOf, Sized};
+ghost use Rattle.automaton.specs.Tables.{cells, Counted, Started, Filled, diagonalOf, Sized};
 
 // States 0 to 60 and lengths 0 to 60: entry `l * SIDE + s` is for length l and state s.
 const SIDE: usize = 61;
 
+// The cells of a table.
+pub const CELLS: usize = SIDE * SIDE;
+
 // Length 0: of the states up to n only state 0 is home.
 fn start(t: &mut [u64], n: usize)
-    requires { ⌜ (length (now t) ≡ 3721) × (n ≤ 60) ⌝ }
+    requires { ⌜ (length (now t) ≡ cells) × (n ≤ 60) ⌝ }
     ensures { λ _. ⌜ Started n (now (t .exit)) ⌝ }
 {
     t[0] = 1;
@@ -25,7 +28,7 @@ fn start(t: &mut [u64], n: usize)
 
 // One table for all prefixes of w: by the letter read, a path goes on to the next state or goes home.
 fn fill(k: u64, w: &[u8], t: &mut [u64])
-    requires { ⌜ Counted k (now w) × (length (now t) ≡ 3721) ⌝ }
+    requires { ⌜ Counted k (now w) × (length (now t) ≡ cells) ⌝ }
     ensures { λ _. ⌜ Filled k (now (w .entry)) (now (t .exit)) ⌝ }
 {
     let n = w.len();
@@ -45,7 +48,7 @@ fn fill(k: u64, w: &[u8], t: &mut [u64])
 
 // The sum of an antidiagonal.
 fn diagonal(t: &[u64], d: usize) -> u64
-    requires { ⌜ (length (now t) ≡ 3721) × (d ≤ 60) × (diagonalOf (now t) d d < 2 ^ 64) ⌝ }
+    requires { ⌜ (length (now t) ≡ cells) × (d ≤ 60) × (diagonalOf (now t) d d < 2 ^ 64) ⌝ }
     ensures { λ r. ⌜ r ≡ diagonalOf (now (t .entry)) d d ⌝ }
 {
     let mut sum = 0;
@@ -59,7 +62,7 @@ fn diagonal(t: &[u64], d: usize) -> u64
 
 // The size of CS(w). `top` is k^n.
 pub fn whole(k: u64, w: &[u8], top: u64, t: &mut [u64]) -> u64
-    requires { ⌜ Counted k (now w) × Prenecklace (now w) × (top ≡ k ^ length (now w)) × (length (now t) ≡ 3721) ⌝ }
+    requires { ⌜ Counted k (now w) × Prenecklace (now w) × (top ≡ k ^ length (now w)) × (length (now t) ≡ cells) ⌝ }
     ensures { λ r. ⌜ r ≡ cs k (now (w .entry)) ⌝ }
 {
     fill(k, w, t);
@@ -68,7 +71,7 @@ pub fn whole(k: u64, w: &[u8], top: u64, t: &mut [u64]) -> u64
 
 // The sizes of CS of the first d letters, for every divisor d of the length, from one table.
 pub fn sizes(k: u64, w: &[u8], t: &mut [u64]) -> [u64; 61]
-    requires { ⌜ Counted k (now w) × Prenecklace (now w) × (length (now t) ≡ 3721) ⌝ }
+    requires { ⌜ Counted k (now w) × Prenecklace (now w) × (length (now t) ≡ cells) ⌝ }
     ensures { λ r. ⌜ Sized k (now (w .entry)) r ⌝ }
 {
     fill(k, w, t);

@@ -5,6 +5,7 @@ ghost use lib.ListN.{length};
 ghost use Rattle.theory.specs.Words.{turned};
 ghost use Rattle.buffers.specs.Buffers.{putBe, over};
 
+// The source, byte by byte.
 pub fn copy(src: &[u8], out: &mut [u8])
     requires { ⌜ length (now src) ≤ length (now out) ⌝ }
     ensures { λ _. ⌜ now (out .exit) ≡ over (now (src .entry)) (now (out .entry)) ⌝ }
@@ -26,6 +27,7 @@ pub fn copy_turned(src: &[u8], turn: usize, out: &mut [u8])
     copy(&src[..turn], &mut out[done..]);
 }
 
+// A number in 2 bytes.
 pub fn put16(v: u64, out: &mut [u8])
     requires { ⌜ 2 ≤ length (now out) ⌝ }
     ensures { λ _. ⌜ now (out .exit) ≡ over (putBe 2 v) (now (out .entry)) ⌝ }
@@ -34,6 +36,7 @@ pub fn put16(v: u64, out: &mut [u8])
     out[1] = (v % 256) as u8;
 }
 
+// A number in 8 bytes.
 pub fn put64(v: u64, out: &mut [u8])
     requires { ⌜ 8 ≤ length (now out) ⌝ }
     ensures { λ _. ⌜ now (out .exit) ≡ over (putBe 8 v) (now (out .entry)) ⌝ }

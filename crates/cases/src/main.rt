@@ -1,12 +1,16 @@
 // Runs the cases of the documents that the calls on words answer: a line for each call, with what it was asked, its number, its answer.
+
+// Between two fields.
 fn space() {
     io::write_all(1, b" ");
 }
 
+// A letter in decimal.
 fn letter(x: u8) {
     io::print_decimal(1, x as u64);
 }
 
+// A word or what a tray holds, letter by letter.
 fn letters(word: &[u8]) {
     let mut i = 0;
     while i < word.len() {
@@ -15,10 +19,12 @@ fn letters(word: &[u8]) {
     }
 }
 
+// A byte in two hexadecimal digits.
 fn byte(x: u8) {
     io::print_hex(1, x as u64, 2);
 }
 
+// What a tray holds, byte by byte.
 fn bytes(tray: &[u8]) {
     let mut i = 0;
     while i < tray.len() {
@@ -27,6 +33,7 @@ fn bytes(tray: &[u8]) {
     }
 }
 
+// The start of a line: the call and its strip.
 fn asked(call: &[u8], k: u64, n: u64) {
     io::write_all(1, call);
     space();
@@ -36,6 +43,7 @@ fn asked(call: &[u8], k: u64, n: u64) {
     space();
 }
 
+// The end of a line: number and value.
 fn answered(answer: calls::Value) {
     io::print_decimal(1, answer.number as u64);
     space();
@@ -43,6 +51,7 @@ fn answered(answer: calls::Value) {
     io::write_all(1, b"\n");
 }
 
+// rank_of, in a tray that is two bytes too long.
 fn rank(k: u64, n: u64, word: &[u8]) {
     let mut tray = [170u8; 10];
     let number = words::rank_of(k, n, word, &mut tray);
@@ -55,6 +64,7 @@ fn rank(k: u64, n: u64, word: &[u8]) {
     io::write_all(1, b"\n");
 }
 
+// word_of, in a tray of 8 bytes.
 fn word(k: u64, n: u64, index: u64) {
     let mut tray = [7u8; 8];
     let number = words::word_of(k, n, index, &mut tray);
@@ -77,11 +87,13 @@ fn words(k: u64, n: u64, last: u64) {
     word(k, n, last);
 }
 
+// lyndon_count.
 fn count(k: u64, n: u64) {
     asked(b"count", k, n);
     answered(words::lyndon_count(k, n));
 }
 
+// The three calls that look at a word alone.
 fn tests(k: u64, n: u64, word: &[u8]) {
     asked(b"lyndon", k, n);
     letters(word);
@@ -129,6 +141,7 @@ fn lists() {
     rank(2, 6, &[0, 1, 0, 1, 1, 1]);
 }
 
+// The cases, in the order of tests/cases.py.
 fn main() {
     small_strips();
     lists();

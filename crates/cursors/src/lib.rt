@@ -15,7 +15,7 @@ use shape::Strip;
 pub struct Cursor {
     pub k: u8,
     pub n: u8,
-    pub word: [u8; 60],
+    pub word: [u8; Strip::LONGEST],
     pub long: u8,
     pub place: u8,
 }
@@ -38,7 +38,7 @@ fn is_good(c: Cursor) -> bool
 {
     let word = c.word;
     let long = c.long as usize;
-    if 60 < long {
+    if Strip::LONGEST < long {
         return false;
     }
     // zeros are the letters below 1
@@ -68,8 +68,8 @@ fn start_at(s: Strip, place: u64) -> Started
     requires { ⌜ Shaped s × (place < s .size) ⌝ }
     ensures { λ r. ⌜ (r .number ≡ 0) × Is (cursorAt (s .k) (s .n) place) (r .cursor) ⌝ }
 {
-    let mut room = [0u8; 60];
-    let mut word = [0u8; 60];
+    let mut room = [0u8; Strip::LONGEST];
+    let mut word = [0u8; Strip::LONGEST];
     let marks = s.n as usize;
     let spot = access::hold(s, place, &mut room[..marks], &mut word);
     Started {
@@ -84,6 +84,7 @@ fn start_at(s: Strip, place: u64) -> Started
     }
 }
 
+// A refused start: zero in every field.
 fn refused_start(number: u8) -> Started
     ensures { λ r. ⌜ (r .number ≡ number) × (empty (r .cursor) ≡ true) ⌝ }
 {
@@ -92,7 +93,7 @@ fn refused_start(number: u8) -> Started
         cursor: Cursor {
             k: 0,
             n: 0,
-            word: [0; 60],
+            word: [0; Strip::LONGEST],
             long: 0,
             place: 0,
         },

@@ -31,6 +31,10 @@ more x l w a same h =
       reads = a .stands ∙ ap (λ t. t ++ x) (w .reads);
     }
 
+-- a text, then a number and a space
+abbrev pub spaced : List ℕ → ℕ → List ℕ
+spaced text v = text ++ (decimal v ++ (32 ∷ []))
+
 -- a number and the byte behind it are at most 21 bytes
 pub more-number : {m end at : ℕ} {text buffer after : List ℕ} (v b : ℕ) → v < 2 ^ 64 → Written m text buffer end
     → Adds buffer end (decimal v ++ (b ∷ [])) after at → length after ≡ length buffer → Written (m + 21) (text ++ (decimal v ++ (b ∷ []))) after at

@@ -10,9 +10,12 @@ use calls::Checked;
 use plans::Section;
 use shape::Strip;
 
+// Bytes that hold any line.
+pub const LINE: usize = 128;
+
 // A line in the first `long` bytes.
 pub struct Line {
-    pub bytes: [u8; 128],
+    pub bytes: [u8; LINE],
     pub long: usize,
 }
 
@@ -20,7 +23,7 @@ pub struct Line {
 fn empty() -> Line
     ensures { λ r. ⌜ LineIs [] r ⌝ }
 {
-    let bytes = [0u8; 128];
+    let bytes = [0u8; LINE];
     Line { bytes, long: 0 }
 }
 
@@ -28,7 +31,7 @@ fn empty() -> Line
 fn refused_line(number: u8) -> Line
     ensures { λ r. ⌜ LineIs (refusedLine number) r ⌝ }
 {
-    let mut bytes = [0u8; 128];
+    let mut bytes = [0u8; LINE];
     let end = texts::put_bytes(b"refused ", &mut bytes, 0);
     let long = texts::put_number(number as u64, b'\n', &mut bytes, end);
     Line { bytes, long }
@@ -39,7 +42,7 @@ fn strip_line(s: Strip) -> Line
     requires { ⌜ Shaped s ⌝ }
     ensures { λ r. ⌜ LineIs (stripLine (s .k) (s .n)) r ⌝ }
 {
-    let mut bytes = [0u8; 128];
+    let mut bytes = [0u8; LINE];
     let word = texts::put_bytes(b"strip ", &mut bytes, 0);
     let shades = texts::put_number(s.k, b' ', &mut bytes, word);
     let marks = texts::put_number(s.n, b' ', &mut bytes, shades);
@@ -52,11 +55,11 @@ fn section_line(s: Strip, i: u64, section: Section) -> Line
     requires { ⌜ Shaped s × (section .offset < s .size) ⌝ }
     ensures { λ r. ⌜ LineIs (sectionLine (s .k) (s .n) i (sectionOf section)) r ⌝ }
 {
-    let mut bytes = [0u8; 128];
+    let mut bytes = [0u8; LINE];
     let number = texts::put_number(i, b' ', &mut bytes, 0);
     let offset = texts::put_number(section.offset, b' ', &mut bytes, number);
     let numbers = texts::put_number(section.long, b' ', &mut bytes, offset);
-    let mut room = [0u8; 60];
+    let mut room = [0u8; Strip::LONGEST];
     let window = &mut room[..s.n as usize];
     access::letters(s, section.offset, window);
     let end = texts::put_letters(window, &mut bytes, numbers);

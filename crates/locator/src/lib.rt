@@ -9,6 +9,9 @@ ghost use Rattle.shape.specs.Shapes.{WordOn};
 ghost use Rattle.locator.specs.Fits.{leading, firstFit, Based, baseOf};
 use shape::Strip;
 
+// The longest text that a window is matched against: a word and a window more.
+const TEXT: usize = 2 * Strip::LONGEST;
+
 // How many letters b stand at the start.
 fn count_leading(b: u8, w: &[u8]) -> usize
     ensures { λ r. ⌜ r ≡ leading b (now (w .entry)) ⌝ }
@@ -85,13 +88,13 @@ pub fn place_of(s: Strip, w: &[u8]) -> u64
         return wrapped(s, lead);
     }
     let turn = rotations::least_turn(w);
-    let mut room = [0u8; 60];
+    let mut room = [0u8; Strip::LONGEST];
     let v = &mut room[..n];
     base(k, w, turn, lead, v);
-    let mut t = [0u64; 3721];
+    let mut t = [0u64; automaton::CELLS];
     let end = automaton::whole(k, v, s.size, &mut t);
     let long = rotations::shortest_root(v);
-    let mut letters = [0u8; 120];
+    let mut letters = [0u8; TEXT];
     let text = &mut letters[..long + n];
     rings::write_from(s, v, long, 0, text);
     end - long as u64 + first_fit(text, w) as u64

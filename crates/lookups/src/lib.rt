@@ -16,6 +16,7 @@ const SECTION: usize = 2;
 
 const ANSWER: usize = 10;
 
+// Over the start of the tray.
 fn put_answer(section: u64, distance: u64, tray: &mut [u8])
     requires { ⌜ 10 ≤ length (now tray) ⌝ }
     ensures { λ _. ⌜ now (tray .exit) ≡ over (putBe 2 section ++ putBe 8 distance) (now (tray .entry)) ⌝ }

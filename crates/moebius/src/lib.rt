@@ -70,6 +70,7 @@ const MOBIUS: [i8; 60] = [
     0,
 ];
 
+// The Möbius value of n.
 fn moebius(n: u64) -> i8
     requires { ⌜ (1 ≤ n) × (n ≤ 60) ⌝ }
     ensures { λ r. ⌜ r ≡ mobius n ⌝ }

@@ -115,6 +115,7 @@ pub struct Section {
     pub long: u64,
 }
 
+// Section i of an accepted plan.
 pub fn section_at(plan: &[u8], i: u64) -> Section
     requires { ⌜ (planFault (now plan) ≡ 0) × (i < sectionCount (now plan)) ⌝ }
     ensures { λ r. ⌜ (r .offset ≡ nthS (sections (now (plan .entry))) i .offset) × (r .long ≡ nthS (sections (now (plan .entry))) i .long) ⌝ }

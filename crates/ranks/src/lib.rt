@@ -3,12 +3,13 @@ ghost use mathlib.Core.Path.{_≡_};
 ghost use lib.ListN.{length};
 ghost use Rattle.theory.specs.Words.{rank, howMany};
 ghost use Rattle.theory.specs.Prenecklaces.{Prenecklace};
+ghost use Rattle.automaton.specs.Tables.{cells};
 ghost use Rattle.shape.specs.Shapes.{Shaped, WordOn};
 use shape::Strip;
 
 // The rank of a prenecklace: document 004's sum, by one table, which is lent.
 pub fn of_prenecklace(s: Strip, w: &[u8], t: &mut [u64]) -> u64
-    requires { ⌜ WordOn s (now w) × Prenecklace (now w) × (length (now t) ≡ 3721) ⌝ }
+    requires { ⌜ WordOn s (now w) × Prenecklace (now w) × (length (now t) ≡ cells) ⌝ }
     ensures { λ r. ⌜ r ≡ rank (s .k) (now (w .entry)) ⌝ }
 {
     let k = s.k;
@@ -25,11 +26,11 @@ pub fn of_word(s: Strip, w: &[u8]) -> u64
 {
     let k = s.k;
     let n = w.len();
-    let mut room = [0u8; 60];
+    let mut room = [0u8; Strip::LONGEST];
     let v = &mut room[..n];
     buffers::copy(w, v);
     floors::floor(k, v);
-    let mut t = [0u64; 3721];
+    let mut t = [0u64; automaton::CELLS];
     of_prenecklace(s, v, &mut t)
 }
 

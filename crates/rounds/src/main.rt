@@ -2,23 +2,28 @@
 // print_marks gives them.
 use cursors::Cursor;
 
+// A number in decimal.
 fn number(v: u64) {
     io::print_decimal(1, v);
 }
 
+// Between two fields.
 fn space() {
     io::write_all(1, b" ");
 }
 
+// A number and what parts it from the next.
 fn field(v: u64) {
     number(v);
     space();
 }
 
+// A byte in decimal.
 fn letter(x: u8) {
     number(x as u64);
 }
 
+// The end of a line.
 fn end() {
     io::write_all(1, b"\n");
 }
@@ -43,6 +48,7 @@ fn step(k: u64, n: u64, c: Cursor) -> Cursor {
     stepped.cursor
 }
 
+// A line for the start, then one for each of so many steps.
 fn walk(k: u64, n: u64, place: u64, count: u64) {
     field(k);
     field(n);
@@ -71,11 +77,13 @@ fn marks(k: u64, n: u64, place: u64) {
     end();
 }
 
+// Steps, and the same marks printed.
 fn both(k: u64, n: u64, place: u64) {
     walk(k, n, place, 80);
     marks(k, n, place);
 }
 
+// The walks of tests/rounds.py, in their order.
 fn main() {
     both(2, 6, 0);
     both(2, 6, 63);

@@ -4,6 +4,7 @@ ghost use Prim.Native.Nat.{_≤_, _<_};
 ghost use lib.ListN.{length};
 ghost use Rattle.theory.specs.Words.{upTo};
 ghost use Rattle.theory.specs.Prenecklaces.{Prenecklace};
+ghost use Rattle.automaton.specs.Tables.{cells};
 ghost use Rattle.shape.specs.Shapes.{Shaped, WordOn};
 ghost use Rattle.search.specs.Goals.{Within, goalWord, Filled, Searching, Found, letterBack, periodWith};
 use shape::Strip;
@@ -16,7 +17,7 @@ pub enum Goal {
 
 // Is w at or past the word searched for? One table.
 fn reaches(s: Strip, goal: Goal, w: &[u8], t: &mut [u64]) -> bool
-    requires { ⌜ WordOn s (now w) × Prenecklace (now w) × Within s goal × (length (now t) ≡ 3721) ⌝ }
+    requires { ⌜ WordOn s (now w) × Prenecklace (now w) × Within s goal × (length (now t) ≡ cells) ⌝ }
     ensures { λ r. ⌜ r ≡ upTo (goalWord (s .k) (s .n) goal) (now (w .entry)) ⌝ }
 {
     let k = s.k;
@@ -29,7 +30,7 @@ fn reaches(s: Strip, goal: Goal, w: &[u8], t: &mut [u64]) -> bool
 
 // The letter of the word searched for at j, by bisection from the smallest that keeps a prenecklace; it is put in its place.
 fn letter(s: Strip, goal: Goal, w: &mut [u8], j: usize, from: u8, t: &mut [u64]) -> u8
-    requires { ⌜ Searching s goal (now w) j from × (length (now t) ≡ 3721) ⌝ }
+    requires { ⌜ Searching s goal (now w) j from × (length (now t) ≡ cells) ⌝ }
     ensures { λ r. ⌜ Found s goal (now (w .entry)) (now (w .exit)) j r ⌝ }
 {
     let mut low = from;
@@ -89,7 +90,7 @@ pub fn find(s: Strip, goal: Goal, out: &mut [u8])
     ensures { λ _. ⌜ now (out .exit) ≡ goalWord (s .k) (s .n) goal ⌝ }
 {
     fill(out, (s.k - 1) as u8);
-    let mut t = [0u64; 3721];
+    let mut t = [0u64; automaton::CELLS];
     let mut period = 0;
     let mut j = 0;
     while j < out.len() {

@@ -56,6 +56,10 @@ impl Strip {
 
     pub const PLACES: u64 = 1 << 60;
 
+    // Bytes that hold a word of any strip.
+    pub const LONGEST: usize = 60;
+
+    // The strip of k and n, if it is admitted.
     pub fn new(k: u64, n: u64) -> Made
         ensures { λ r. ⌜ r ≡ madeOf k n ⌝ }
     {

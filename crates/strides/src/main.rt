@@ -4,12 +4,14 @@ ghost use Prim.Native.Nat.{_<_};
 
 const STEPS: u64 = 1000000;
 
+// A byte as a number; that it is below 256 keeps the sum small.
 fn wide(x: u8) -> u64
     ensures { λ r. ⌜ r < 256 ⌝ }
 {
     x as u64
 }
 
+// A strip walked from its start.
 fn stride(k: u64, n: u64) {
     let started = cursors::start_cursor(k, n, 0);
     let mut at = started.cursor;
@@ -29,6 +31,7 @@ fn stride(k: u64, n: u64) {
     io::write_all(1, b"\n");
 }
 
+// The strips of tests/strides.py, in their order.
 fn main() {
     stride(2, 60);
     stride(4, 30);

@@ -136,10 +136,6 @@ module _ {A B : Type 0} where
   each-sum f g [] = refl
   each-sum f g (x ∷ xs) = omega (arith, each-sum f g xs)
 
-  pub gather-sum : (f : A → List B) (g : B → ℕ) (xs : List A) → sum g (gather f xs) ≡ sum (λ x. sum g (f x)) xs
-  gather-sum f g [] = refl
-  gather-sum f g (x ∷ xs) = omega (arith, gather-sum f g xs, sum-append g (f x) (gather f xs))
-
   pub gather-length : (f : A → List B) (xs : List A) → length (gather f xs) ≡ sum (λ x. length (f x)) xs
   gather-length f [] = refl
   gather-length f (x ∷ xs) = omega (arith, gather-length f xs, length-append (f x) (gather f xs))

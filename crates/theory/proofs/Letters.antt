@@ -5,9 +5,9 @@ use mathlib.Core.List.{List, [], _∷_, _++_}
 use mathlib.Core.Logic.{inl, inr}
 use Prim.Native.Nat.{ℕ, zero, suc, _<_}
 use lib.Dec.{ltb}
-use lib.ListN.{length, getD, take, drop, replicate, take-append-drop}
+use lib.ListN.{length, getD, take, drop, replicate}
 use borrow.Author.Tests.{ltb-true, lt-ltb}
-use Rattle.theory.specs.Words.{turned, repeated, marksOk}
+use Rattle.theory.specs.Words.{repeated, marksOk}
 use Rattle.theory.specs.Lists.{In, here, there}
 use Rattle.theory.specs.Rings.{joined}
 use Rattle.theory.specs.Steps.{extension}
@@ -49,14 +49,6 @@ marks-take k n w h = marks-part k (take n w) w (λ a i. take-in n w i) h
 
 pub marks-drop : (k n : ℕ) (w : List ℕ) → marksOk k w ≡ true → marksOk k (drop n w) ≡ true
 marks-drop k n w h = marks-part k (drop n w) w (λ a i. drop-in n w i) h
-
-pub marks-turned : (k i : ℕ) (w : List ℕ) → marksOk k w ≡ true → marksOk k (turned i w) ≡ true
-marks-turned k i w h = marks-append k (drop i w) (take i w) (marks-drop k i w h) (marks-take k i w h)
-
-pub turned-marks : (k i : ℕ) (w : List ℕ) → marksOk k (turned i w) ≡ true → marksOk k w ≡ true
-turned-marks k i w h =
-    let p = marks-append k (take i w) (drop i w) (marks-right k (drop i w) (take i w) h) (marks-left k (drop i w) (take i w) h) in
-    rw (take-append-drop i w) at p
 
 pub marks-repeated : (k e : ℕ) (u : List ℕ) → marksOk k u ≡ true → marksOk k (repeated e u) ≡ true
 marks-repeated k zero u h = refl

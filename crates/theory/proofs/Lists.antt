@@ -40,9 +40,6 @@ module _ {A : Type 0} where
   pub in-mid : (a : List A) {x : A} (b : List A) → In x (a ++ (x ∷ b))
   in-mid a b = in-append-right a (here refl)
 
-  pub split-in : {x : A} {xs : List A} (a b : List A) → xs ≡ a ++ (x ∷ b) → In x xs
-  split-in {x} a b e = subst (λ r. In x r) (sym e) (in-mid a b)
-
   -- a member of a ++ (x ∷ b) other than x
   pub in-rest : {x y : A} (a b : List A) → In y (a ++ (x ∷ b)) → (y ≡ x) ⊎ In y (a ++ b)
   in-rest {x} {y} a b i = elim (in-append-cases a i) [ inl j ↦ inr (in-append-left b j) | inr j ↦ second j ]
@@ -124,19 +121,6 @@ module _ {A : Type 0} where
   once-append [] ys p q h = q
   once-append (x ∷ xs) ys p q h =
       (λ i. elim (in-append-cases xs i) [ inl j ↦ p .0 j | inr j ↦ h x (here refl) j ], once-append xs ys (p .1) q (λ y i j. h y (there i) j))
-
-  pub once-apart : (xs ys : List A) → Once (xs ++ ys) → (x : A) → In x xs → In x ys → ⊥
-  once-apart [] ys p x i j = in-nil i
-  once-apart (y ∷ xs) ys p x (here e) j = p .0 (in-append-right xs (subst (λ r. In r ys) e j))
-  once-apart (y ∷ xs) ys p x (there i) j = once-apart xs ys (p .1) x i j
-
-  pub once-left : (xs ys : List A) → Once (xs ++ ys) → Once xs
-  once-left [] ys p = tt
-  once-left (x ∷ xs) ys p = (λ i. p .0 (in-append-left ys i), once-left xs ys (p .1))
-
-  pub once-right : (xs ys : List A) → Once (xs ++ ys) → Once ys
-  once-right [] ys p = p
-  once-right (x ∷ xs) ys p = once-right xs ys (p .1)
 
   pub keep-once : (f : A → Bool) (xs : List A) → Once xs → Once (keep f xs)
   keep-once f [] p = tt
@@ -242,10 +226,6 @@ ascend-apart (w ∷ us) vs p u v (there i) j = ascend-apart us vs (p .1) u v i j
 pub ascend-right : (us vs : List (List ℕ)) → Ascending (us ++ vs) → Ascending vs
 ascend-right [] vs p = p
 ascend-right (u ∷ us) vs p = ascend-right us vs (p .1)
-
-pub ascend-left : (us vs : List (List ℕ)) → Ascending (us ++ vs) → Ascending us
-ascend-left [] vs p = tt
-ascend-left (u ∷ us) vs p = (λ v i. p .0 v (in-append-left vs i), ascend-left us vs (p .1))
 
 -- an ascending list around a member: the smaller ones before, the larger ones after
 pub ascend-before : (a : List (List ℕ)) {u : List ℕ} (b : List (List ℕ)) → Ascending (a ++ (u ∷ b)) → (v : List ℕ) → In v a → Lt v u

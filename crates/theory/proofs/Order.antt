@@ -163,10 +163,6 @@ pub lt-not-upTo : {u v : List ℕ} → Lt v u → upTo u v ≡ false
 lt-not-upTo {u} {v} p = elim (test (upTo u v)) [ inl t ↦ absurd (le-not-lt (upTo-le u v t) p) | inr t ↦ t ]
 
 -- a common prefix
-pub lt-prefix : (p : List ℕ) {u v : List ℕ} → Lt u v → Lt (p ++ u) (p ++ v)
-lt-prefix [] h = h
-lt-prefix (x ∷ p) h = later (lt-prefix p h)
-
 pub lt-unprefix : (p : List ℕ) {u v : List ℕ} → Lt (p ++ u) (p ++ v) → Lt u v
 lt-unprefix [] h = h
 lt-unprefix (x ∷ p) (now h) = absurd (omega arith)
@@ -218,25 +214,12 @@ cut-or (short {y = y} {v = v}) = inr (prefix (y ∷ v) refl)
 cut-or (now h) = inl (differ h)
 cut-or (later {x = x} p) = elim (cut-or p) [ inl q ↦ inl (agree q) | inr q ↦ elim q [ prefix t e ↦ inr (prefix t (ap (λ r. x ∷ r) e)) ] ]
 
-pub le-cut : {u v : List ℕ} → Le u v → Cut u v ⊎ Prefix u v
-le-cut {u} p = elim (le-cases p) [ inl q ↦ cut-or q | inr q ↦ inr (prefix [] (sym q ∙ sym (append-nil u))) ]
-
 -- a decision against v that lies within u is one against any word that begins with v, and back
 pub cut-shorten : (u v s : List ℕ) → length u ≤ length v → Cut u (v ++ s) → Cut u v
 cut-shorten [] v s e h = elim h [ ]
 cut-shorten (x ∷ u) [] s e h = absurd (omega arith)
 cut-shorten (x ∷ u) (y ∷ v) s e (differ h) = differ h
 cut-shorten (x ∷ u) (y ∷ v) s e (agree h) = agree (cut-shorten u v s (omega arith) h)
-
-pub cut-shorten-left : (u v s : List ℕ) → length v ≤ length u → Cut (u ++ s) v → Cut u v
-cut-shorten-left u [] s e h = absurd (nothing h)
-  where
-    nothing : {w : List ℕ} → ¬ Cut w []
-    nothing {w = []} q = elim q [ ]
-    nothing {w = x ∷ w} q = elim q [ ]
-cut-shorten-left [] (y ∷ v) s e h = absurd (omega arith)
-cut-shorten-left (x ∷ u) (y ∷ v) s e (differ h) = differ h
-cut-shorten-left (x ∷ u) (y ∷ v) s e (agree h) = agree (cut-shorten-left u v s (omega arith) h)
 
 -- s is cut below x, y is at least as long as s: y is below x as well, or s is below y
 pub cut-mid : {s x : List ℕ} (y : List ℕ) → Cut s x → length s ≤ length y → Cut y x ⊎ Cut s y
@@ -277,9 +260,6 @@ cmp3 (x ∷ u) (y ∷ v) e = elim (cmp x y) [ less l ↦ cut-below (differ l) | 
     tail l (begins (prefix t f)) = begins (prefix t (rw (l, f)))
 
 -- prefixes
-pub prefix-length : {u v : List ℕ} → Prefix u v → length u ≤ length v
-prefix-length {u} (prefix t e) = omega (arith, ap length e, length-append u t)
-
 pub prefix-trans : {u v w : List ℕ} → Prefix u v → Prefix v w → Prefix u w
 prefix-trans {u} (prefix s e) (prefix t f) = prefix (s ++ t) (f ∙ ap (λ r. r ++ t) e ∙ append-assoc u s t)
 
@@ -306,10 +286,6 @@ prefix-both {u} {v} (prefix s e) (prefix t f) h = elim (levi u s v t (sym e ∙ 
 pub cut-not-prefix : {u v : List ℕ} → Cut u v → ¬ Prefix v u
 cut-not-prefix {u} {v} h (prefix t e) =
     cut-irrefl (subst (λ r. Cut u r) (sym e) (subst (λ r. Cut r (v ++ t)) (append-nil u) (cut-append [] t h)))
-
-pub cut-not-begins : {u v : List ℕ} → Cut u v → ¬ Prefix u v
-cut-not-begins {u} {v} h (prefix t e) =
-    cut-irrefl (subst (λ r. Cut (u ++ t) r) (append-nil v ∙ e) (cut-append t [] h))
 
 pub prefix-le : {u v : List ℕ} → Prefix u v → Le u v
 prefix-le {u} (prefix t e) = subst (λ r. Le u r) (sym e) (le-append u t)

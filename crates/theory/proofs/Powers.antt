@@ -35,10 +35,6 @@ repeated-add (suc d) e u =
 pub repeated-comm : (d e : ℕ) (u : List ℕ) → repeated d u ++ repeated e u ≡ repeated e u ++ repeated d u
 repeated-comm d e u = sym (repeated-add d e u) ∙ ap (λ r. repeated r u) (native.Mathlib.Nat.add-comm d e) ∙ repeated-add e d u
 
-pub repeated-nil : (e : ℕ) → repeated e [] ≡ []
-repeated-nil zero = refl
-repeated-nil (suc e) = repeated-nil e
-
 -- a power in the middle of a rotation
 pub repeated-shift : (e : ℕ) (a b : List ℕ) → b ++ (repeated e (a ++ b) ++ a) ≡ repeated (suc e) (b ++ a)
 repeated-shift zero a b = sym (append-nil (b ++ a))

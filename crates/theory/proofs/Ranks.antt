@@ -7,21 +7,14 @@ use Prim.Native.Nat.{ℕ, suc, _+_, _-_, _≤_, _<_}
 use native.Mathlib.Omega.{arith}
 use lib.ListN.{length, getD, take, drop, length-append}
 use lib.Seq.{split-at, length-take-le}
-use Rattle.theory.specs.Words.{below, upTo, isLyndon, keep, lyndons, howMany, rank, wordOf, marksOk}
-use Rattle.theory.specs.Lists.{In, here, there, Ascending}
+use Rattle.theory.specs.Words.{upTo, isLyndon, keep, lyndons, howMany, rank, wordOf, marksOk}
+use Rattle.theory.specs.Lists.{In, Ascending}
 use Rattle.theory.specs.Theorems.{Undone}
-use Rattle.theory.proofs.Order.{Le, eq-le, lt-le, lt-below, le-not-below, le-upTo, lt-not-upTo}
+use Rattle.theory.proofs.Order.{Le, eq-le, lt-le, le-upTo, lt-not-upTo}
 use Rattle.theory.proofs.Lists.{getD-in, index, in-index, ascend-before, ascend-after, in-rest, keep-split}
 use Rattle.theory.proofs.Listed.{lyndon-words, lyndon-ascend}
 
 module _ (a : List (List ℕ)) (u : List ℕ) (b : List (List ℕ)) (up : Ascending (a ++ (u ∷ b))) where
-  pub kept-below : keep (λ v. below v u) (a ++ (u ∷ b)) ≡ a
-  kept-below = keep-split (λ v. below v u) a (u ∷ b) (λ v i. lt-below (ascend-before a b up v i)) (λ v i. le-not-below (from v i))
-    where
-      from : (v : List ℕ) → In v (u ∷ b) → Le u v
-      from v (here e) = eq-le (sym e)
-      from v (there i) = lt-le (ascend-after a b up v i)
-
   pub kept-upTo : keep (λ v. upTo v u) (a ++ (u ∷ b)) ≡ a ++ (u ∷ [])
   kept-upTo =
       ap (keep (λ v. upTo v u)) (sym (append-assoc a (u ∷ []) b))

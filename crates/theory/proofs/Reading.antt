@@ -58,9 +58,6 @@ letters-same m s p q (suc c) e =
     ap₂ (λ a r. a ∷ r) (ap (λ i. getD s i 0) e)
     (letters-same m s (suc p) (suc q) c (modulo-suc p m ∙ ap (λ i. modulo (suc i) m) e ∙ sym (modulo-suc q m)))
 
-pub letters-wrap : (m : ℕ) (s : List ℕ) (p c : ℕ) → lettersOn m s (p + m) c ≡ lettersOn m s p c
-letters-wrap m s p c = letters-same m s (p + m) p c (modulo-add p m)
-
 pub letters-modulo : (m : ℕ) (s : List ℕ) (p c : ℕ) → lettersOn m s (modulo p m) c ≡ lettersOn m s p c
 letters-modulo m s p c = letters-same m s (modulo p m) p c (modulo-modulo p m)
 
@@ -135,9 +132,3 @@ find-first (suc l) p m s n w q a b e = elim (test (same (lettersOn m s p n) w)) 
 -- the first is not after any other, and the only one is the first
 pub first-least : (m : ℕ) (s : List ℕ) (n : ℕ) (w : List ℕ) (p q r : ℕ) → First m s n w p r → p ≤ q → lettersOn m s q n ≡ w → r ≤ q
 first-least m s n w p q r f a e = elim (split r q) [ upto g ↦ g | over g ↦ absurd (f .none q a g e) ]
-
-pub find-only : (l p m : ℕ) (s : List ℕ) (n : ℕ) (w : List ℕ) (q : ℕ) → p ≤ q → q < p + l → lettersOn m s q n ≡ w
-    → ((i : ℕ) → p ≤ i → i < p + l → lettersOn m s i n ≡ w → i ≡ q) → findOn l p m s n w ≡ q
-find-only l p m s n w q a b e only =
-    let f = find-first l p m s n w q a b e in
-    only _ (f .after) (omega (arith, first-least m s n w p q _ f a e)) (f .reads)

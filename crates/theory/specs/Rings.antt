@@ -127,11 +127,7 @@ stepOn ok c =
     (let v = nextOn ok c in
     record { mark = m; passed = pick (below (c .word) v) (passedBy (c .word) v (lyndonsUp (c .k) (c .n))) 0; cursor-is = cursor (c .k) (c .n) v 0 })
 
--- the letters that the next steps of a cursor give, and the cursor after them
+-- the letters that the next steps of a cursor give
 abbrev pub readOn : (ℕ → Bool) → Cursor → ℕ → List ℕ
 readOn ok c zero = []
 readOn ok c (suc i) = stepOn ok c .mark ∷ readOn ok (stepOn ok c .cursor-is) i
-
-abbrev pub movedOn : (ℕ → Bool) → Cursor → ℕ → Cursor
-movedOn ok c zero = c
-movedOn ok c (suc i) = movedOn ok (stepOn ok c .cursor-is) i

@@ -2,6 +2,7 @@
 // `proved` does nothing; it is proved only where every theorem of specs/Theorems.antt is.
 ghost use Rattle.theory.specs.Theorems.{Theorems};
 
+// Its contract is every theorem.
 pub fn proved()
     ensures { λ _. ⌜ Theorems ⌝ }
 {}

@@ -19,11 +19,19 @@ Inv-loop k w t₀ n l₀ t l = Lengths k w t n l
 abbrev μ-loop : tie.MeasureT-loop
 μ-loop k w t₀ n l₀ t l = n + 1 - l
 
+-- the start, from where the outer loop is reached
+abbrev start : tie.After-slice-known2 Inv-loop2 μ-loop2 Inv-loop μ-loop → tie.Start Inv-loop2 μ-loop2 Inv-loop μ-loop
+start c = c .before .before .before .before .before .before
+
+-- the outer turn, from where the inner loop is reached
+abbrev outer : tie.At-loop2 Inv-loop2 μ-loop2 Inv-loop μ-loop → tie.At-loop Inv-loop2 μ-loop2 Inv-loop μ-loop
+outer c = c .before .before .before
+
 start-requires : tie.Need-start-requires Inv-loop2 μ-loop2 Inv-loop μ-loop
 start-requires c κs = let f = c .before .before .before in (f .pre .1, f .pre .0 .short)
 
 loop-holds : tie.Need-loop-holds Inv-loop2 μ-loop2 Inv-loop μ-loop
-loop-holds c = let f = c .before .before .before .before .before .before in started (f .args .k) (f .args .w .now) (f .pre .0) _ (c .before .before .start .ensures)
+loop-holds c = started _ _ (start c .pre .0) _ (c .before .before .start .ensures)
 
 sub-home : tie.Need-sub-home Inv-loop2 μ-loop2 Inv-loop μ-loop
 sub-home c = omega arith
@@ -38,10 +46,7 @@ slice-read-home : tie.Need-slice-read-home Inv-loop2 μ-loop2 Inv-loop μ-loop
 slice-read-home c = omega arith
 
 loop2-holds : tie.Need-loop2-holds Inv-loop2 μ-loop2 Inv-loop μ-loop
-loop2-holds c =
-    let a = c .before .before .before .before .before .before .before .before .before in
-    let o = c .before .before .loop in
-    begun (a .args .k) (a .args .w .now) (a .pre .0) (o .t) (length (a .args .w .now)) (o .l) (o .inv) (omega arith)
+loop2-holds c = let o = c .before .before in begun _ _ (start (o .before) .pre .0) _ _ _ (o .loop .inv) (omega arith)
 
 add-loop2 : tie.Need-add-loop2 Inv-loop2 μ-loop2 Inv-loop μ-loop
 add-loop2 c = omega arith
@@ -54,14 +59,11 @@ shared-slice-read-larger c = omega arith
 
 -- a turn of the inner loop
 turn : (c : tie.After-shared-slice-known2 Inv-loop2 μ-loop2 Inv-loop μ-loop)
-    → let a = c .before .before .before .before .before .before .before .before .before .before .before .before in
-    let o = c .before .before .before .before .before .loop in
-    let i = c .before .before .loop2 in
-    Next (a .args .k) (a .args .w .now) (i .t) (length (a .args .w .now)) (o .l) (getD (o .t) ((o .l - 1) * 61) 0) (i .s)
-turn c =
-    let a = c .before .before .before .before .before .before .before .before .before .before .before .before in
-    let i = c .before .before .loop2 in
-    next (a .args .k) (a .args .w .now) (a .pre .0) (i .t) (length (a .args .w .now)) _ _ (i .s) (i .inv) (omega arith)
+    → let i = c .before .before .loop2 in
+    let o = outer (c .before .before) in
+    let a = start (o .before) .args in
+    Next (a .k) (a .w .now) (i .t) (length (a .w .now)) (o .loop .l) (getD (o .loop .t) ((o .loop .l - 1) * 61) 0) (i .s)
+turn c = let i = c .before .before in next _ _ (start (outer i .before) .pre .0) _ _ _ _ _ (i .loop2 .inv) (omega arith)
 
 cast-larger : tie.Need-cast-larger Inv-loop2 μ-loop2 Inv-loop μ-loop
 cast-larger c = omega (arith, c .shared-slice-known2 .given (c .before .before .loop2 .s))
@@ -121,18 +123,13 @@ loop-less : tie.Need-loop-less Inv-loop2 μ-loop2 Inv-loop μ-loop
 loop-less c = omega arith
 
 loop-again : tie.Need-loop-again Inv-loop2 μ-loop2 Inv-loop μ-loop
-loop-again c =
-    let a = c .before .before .before .before .before .before .before .before .before .before .before in
-    let o = c .before .before .before .before .loop in
-    ended (a .args .k) (a .args .w .now) (a .pre .0) (c .before .loop2 .t) (length (a .args .w .now)) (o .l) _ (c .before .loop2 .s) (c .before .loop2 .inv) (omega arith)
+loop-again c = let i = c .before in ended _ _ (start (outer i .before) .pre .0) _ _ _ _ _ (i .loop2 .inv) (omega arith)
 
 same-length : tie.Need-same-length Inv-loop2 μ-loop2 Inv-loop μ-loop
-same-length c = c .before .loop .inv .reached .size ∙ sym (c .before .before .before .before .before .before .before .before .pre .1)
+same-length c = c .before .loop .inv .reached .size ∙ sym (start (c .before .before) .pre .1)
 
 returns : tie.Need-returns Inv-loop2 μ-loop2 Inv-loop μ-loop
-returns c =
-    let a = c .before .before .before .before .before .before .before .before in
-    full (a .args .k) (a .args .w .now) (a .pre .0) (c .before .loop .t) (length (a .args .w .now)) (c .before .loop .l) (c .before .loop .inv) (omega arith)
+returns c = let o = c .before in full _ _ (start (o .before) .pre .0) _ _ _ (o .loop .inv) (omega arith)
 
 pub fill-spec : {M : Type 1} → statement M
 fill-spec =

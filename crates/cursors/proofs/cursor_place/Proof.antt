@@ -2,8 +2,8 @@
 use mathlib.Core.Path.{refl}
 use borrow.Author.Needs.{needs}
 use Rattle.theory.specs.Strips.{placeIn}
-use Rattle.calls.proofs.Checks.{refused-by, passed}
-use Rattle.calls.proofs.Answers.{value-refused, value-answer}
+use Rattle.calls.proofs.Checks.{passed}
+use Rattle.calls.proofs.Answers.{value-refused-by, value-answer}
 use Rattle.cursors.specs.Cursors.{cursorIn, cursorFault}
 use Rattle.cursors.proofs.Told.{good-on}
 use Rattle.cursors.proofs.cursor_place.Statement.{statement}
@@ -27,8 +27,7 @@ returns : tie.Need-returns
 returns c =
     let checked = c .before .before .before in
     let a = checked .before .args .c in
-    let (is, some) = refused-by (cursorFault a) (a .k) (a .n) (checked .check .ensures) (c .before .number .given .1) in
-    value-refused (placeIn (cursorIn a)) is some (refl, refl)
+    value-refused-by (cursorFault a) (a .k) (a .n) (placeIn (cursorIn a)) (checked .check .ensures) (c .before .number .given .1) (refl, refl)
 
 returns-2 : tie.Need-returns-2
 returns-2 c =

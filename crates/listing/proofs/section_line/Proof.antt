@@ -2,80 +2,75 @@
 use mathlib.Core.Path.{refl, sym}
 use mathlib.Core.List.{[], _∷_, _++_}
 use native.Mathlib.Omega.{arith}
-use mir.Syntax.{w64}
-use mir.Val.{Fits}
 use borrow.Author.Needs.{needs}
 use Rattle.shape.proofs.Limits.{limits}
-use Rattle.texts.specs.Texts.{decimal, glyphs}
+use Rattle.texts.specs.Texts.{glyphs}
 use Rattle.texts.proofs.Decimals.{decimal-fits}
 use Rattle.access.proofs.Reading.{in-room}
 use Rattle.listing.specs.Lines.{sectionOf}
 use Rattle.listing.proofs.Sections.{window-short, digits-short, window-digits, section-text}
-use Rattle.listing.proofs.Building.{Written, nothing, more, more-number, number-room, room, line-is}
+use Rattle.listing.proofs.Building.{Written, spaced, nothing, more, more-number, number-room, room, line-is}
 use Rattle.listing.proofs.section_line.Statement.{statement}
 use Rattle.listing.proofs.section_line.Tie as tie
 
--- what is written: the number, then the offset, the length, the window's digits
-number : (c : tie.After-put-number)
-    → Written 21 (decimal (c .before .before .args .i) ++ (32 ∷ [])) (c .put-number .last .1 .1 .0) (c .put-number .result)
-number c =
-    let f = c .before .before in
-    more-number (f .args .i) 32 (omega (arith, f .fits .i)) (nothing _ refl) (c .put-number .ensures) (c .put-number .kept .1 .1 .0)
+-- the number is written: the start from there, and what stands in the buffer
+abbrev number-start : tie.After-put-number → tie.Start
+number-start c = c .before .before
 
-offset : (c : tie.After-put-number2)
-    → let f = c .before .before .before .before .before in
-    Written 42 ((decimal (f .args .i) ++ (32 ∷ [])) ++ (decimal (f .args .section .offset) ++ (32 ∷ []))) (c .put-number2 .last .1 .1 .0) (c .put-number2 .result)
-offset c =
-    let f = c .before .before .before .before .before in
-    let fit : Fits w64 (f .args .section .offset) = search needs in
-    more-number (f .args .section .offset) 32 (omega arith) (number (c .before .before .before)) (c .put-number2 .ensures) (c .put-number2 .kept .1 .1 .0)
+number : (c : tie.After-put-number) → Written 21 (spaced [] (number-start c .args .i)) (c .put-number .last .1 .1 .0) (c .put-number .result)
+number c = more-number (number-start c .args .i) 32 (search needs) (nothing _ refl) (c .put-number .ensures) (c .put-number .kept .1 .1 .0)
 
-numbers : (c : tie.After-put-number3)
-    → let f = c .before .before .before .before .before .before .before .before in
-    Written 63 (((decimal (f .args .i) ++ (32 ∷ [])) ++ (decimal (f .args .section .offset) ++ (32 ∷ []))) ++ (decimal (f .args .section .long) ++ (32 ∷ []))) (c .put-number3 .last .1 .1 .0) (c .put-number3 .result)
-numbers c =
-    let f = c .before .before .before .before .before .before .before .before in
-    let fit : Fits w64 (f .args .section .long) = search needs in
-    more-number (f .args .section .long) 32 (omega arith) (offset (c .before .before .before)) (c .put-number3 .ensures) (c .put-number3 .kept .1 .1 .0)
+-- the offset is written
+abbrev offset-start : tie.After-put-number2 → tie.Start
+offset-start c = number-start (c .before .before .before)
 
-digits : (c : tie.After-put-letters)
-    → let f = c .before .before .before .before .before .before .before .before .before .before .before .before .before .before .before .before .before in
-    Written 123 ((((decimal (f .args .i) ++ (32 ∷ [])) ++ (decimal (f .args .section .offset) ++ (32 ∷ []))) ++ (decimal (f .args .section .long) ++ (32 ∷ []))) ++ glyphs (c .before .before .before .before .before .letters .last .1 .1 .0)) (c .put-letters .last .1 .0) (c .put-letters .result)
+offset : (c : tie.After-put-number2) → let f = offset-start c in
+    Written 42 (spaced (spaced [] (f .args .i)) (f .args .section .offset)) (c .put-number2 .last .1 .1 .0) (c .put-number2 .result)
+offset c = more-number (offset-start c .args .section .offset) 32 (search needs) (number (c .before .before .before)) (c .put-number2 .ensures) (c .put-number2 .kept .1 .1 .0)
+
+-- the length is written
+abbrev numbers-start : tie.After-put-number3 → tie.Start
+numbers-start c = offset-start (c .before .before .before)
+
+numbers : (c : tie.After-put-number3) → let f = numbers-start c in
+    Written 63 (spaced (spaced (spaced [] (f .args .i)) (f .args .section .offset)) (f .args .section .long)) (c .put-number3 .last .1 .1 .0) (c .put-number3 .result)
+numbers c = more-number (numbers-start c .args .section .long) 32 (search needs) (offset (c .before .before .before)) (c .put-number3 .ensures) (c .put-number3 .kept .1 .1 .0)
+
+-- the window is read
+abbrev read-start : tie.After-letters → tie.Start
+read-start c = numbers-start (c .before .before .before .before)
+
+-- its digits are written
+digits : (c : tie.After-put-letters) → let read = c .before .before .before .before .before in let f = read-start read in
+    Written 123 (spaced (spaced (spaced [] (f .args .i)) (f .args .section .offset)) (f .args .section .long) ++ glyphs (read .letters .last .1 .1 .0)) (c .put-letters .last .1 .0) (c .put-letters .result)
 digits c =
-    let f = c .before .before .before .before .before .before .before .before .before .before .before .before .before .before .before .before .before in
-    let v = c .before .before .before .before .before .letters .last .1 .1 .0 in
-    more (glyphs v) 60 (numbers (c .before .before .before .before .before .before .before .before .before)) (c .put-letters .ensures) (c .put-letters .kept .1 .0) (digits-short (f .pre .0) (sectionOf (f .args .section)) (c .before .before .before .before .before .letters .ensures))
+    let read = c .before .before .before .before .before in
+    let f = read-start read in
+    more _ 60 (numbers (read .before .before .before .before)) (c .put-letters .ensures) (c .put-letters .kept .1 .0) (digits-short (f .pre .0) (sectionOf (f .args .section)) (read .letters .ensures))
 
 slice-aggregate-put-number : tie.Need-slice-aggregate-put-number
 slice-aggregate-put-number c = search needs
 
 put-number-requires : tie.Need-put-number-requires
-put-number-requires c κs =
-    let f = c .before in omega (arith, decimal-fits (f .args .i) (omega (arith, f .fits .i)))
+put-number-requires c κs = omega (arith, decimal-fits (c .before .args .i) (search needs))
 
 slice-aggregate-put-number-2 : tie.Need-slice-aggregate-put-number-2
 slice-aggregate-put-number-2 c = search needs
 
 put-number-requires-2 : tie.Need-put-number-requires-2
-put-number-requires-2 c κs =
-    let f = c .before .before .before .before in
-    let fit : Fits w64 (f .args .section .offset) = search needs in
-    number-room (f .args .section .offset) (omega arith) (number (c .before .before)) (omega arith)
+put-number-requires-2 c κs = let at = c .before .before in number-room (number-start at .args .section .offset) (search needs) (number at) (omega arith)
 
 slice-aggregate-put-number-3 : tie.Need-slice-aggregate-put-number-3
 slice-aggregate-put-number-3 c = search needs
 
 put-number-requires-3 : tie.Need-put-number-requires-3
-put-number-requires-3 c κs =
-    let f = c .before .before .before .before .before .before .before in
-    let fit : Fits w64 (f .args .section .long) = search needs in
-    number-room (f .args .section .long) (omega arith) (offset (c .before .before)) (omega arith)
+put-number-requires-3 c κs = let at = c .before .before in number-room (offset-start at .args .section .long) (search needs) (offset at) (omega arith)
 
 array-borrow-prefix-room : tie.Need-array-borrow-prefix-room
-array-borrow-prefix-room c = limits (c .before .before .before .before .before .before .before .before .before .pre .0) .short
+array-borrow-prefix-room c = limits (numbers-start (c .before) .pre .0) .short
 
 slice-aggregate-window : tie.Need-slice-aggregate-window
-slice-aggregate-window c = sym (in-room (c .before .before .before .before .before .before .before .before .before .before .pre .0))
+slice-aggregate-window c = sym (in-room (numbers-start (c .before .before) .pre .0))
 
 letters-requires : tie.Need-letters-requires
 letters-requires c κs = search needs
@@ -85,9 +80,10 @@ slice-aggregate-put-letters c = search needs
 
 put-letters-requires : tie.Need-put-letters-requires
 put-letters-requires c κs =
-    let f = c .before .before .before .before .before .before .before .before .before .before .before .before .before .before .before .before in
-    let read = c .before .before .before .before .letters .ensures in
-    (omega (arith, window-short (f .pre .0) (sectionOf (f .args .section)) read, room 60 (numbers (c .before .before .before .before .before .before .before .before)) (omega arith)), window-digits (f .pre .0) (sectionOf (f .args .section)) read)
+    let read = c .before .before .before .before in
+    let f = read-start read in
+    let short = window-short (f .pre .0) (sectionOf (f .args .section)) (read .letters .ensures) in
+    (omega (arith, short, room 60 (numbers (read .before .before .before .before)) (omega arith)), window-digits (f .pre .0) (sectionOf (f .args .section)) (read .letters .ensures))
 
 slice-aggregate-put-bytes : tie.Need-slice-aggregate-put-bytes
 slice-aggregate-put-bytes c = search needs
@@ -100,10 +96,11 @@ put-bytes-requires c κs = room 1 (digits (c .before .before .before .before)) (
 
 returns : tie.Need-returns
 returns c =
-    let f = c .before .before .before .before .before .before .before .before .before .before .before .before .before .before .before .before .before .before .before .before .before .before .before in
-    let g = c .before .put-bytes in
-    let w = more (10 ∷ []) 1 (digits (c .before .before .before .before .before .before)) (g .ensures) (g .kept .1 .0) (omega arith) in
-    line-is w (omega arith) (section-text (f .pre .0) (sectionOf (f .args .section)) (c .before .before .before .before .before .before .before .before .before .before .before .letters .ensures) (f .args .i))
+    let at = c .before .before .before .before .before .before in
+    let read = at .before .before .before .before .before in
+    let f = read-start read in
+    let w = more (10 ∷ []) 1 (digits at) (c .before .put-bytes .ensures) (c .before .put-bytes .kept .1 .0) (omega arith) in
+    line-is w (omega arith) (section-text (f .pre .0) (sectionOf (f .args .section)) (read .letters .ensures) (f .args .i))
 
 pub section-line-spec : {M : Type 1} → statement M
 section-line-spec =

@@ -3,30 +3,33 @@ use mathlib.Core.Path.{refl}
 use mathlib.Core.List.{[], _∷_, _++_}
 use native.Mathlib.Omega.{arith}
 use borrow.Author.Needs.{needs}
-use Rattle.texts.specs.Texts.{decimal}
 use Rattle.listing.specs.Listings.{stripText}
-use Rattle.listing.proofs.Building.{Written, nothing, more, more-number, number-room, line-is, strip-text, strip-fits}
+use Rattle.listing.proofs.Building.{Written, spaced, nothing, more, more-number, number-room, line-is, strip-text, strip-fits}
 use Rattle.listing.proofs.strip_line.Statement.{statement}
 use Rattle.listing.proofs.strip_line.Tie as tie
 
--- what is written: the word, then k, then n
-word : (c : tie.After-put-bytes)
-    → Written 6 (stripText ++ (32 ∷ [])) (c .put-bytes .last .1 .0) (c .put-bytes .result)
+-- the word is written: the start from there, and what stands in the buffer
+abbrev word-start : tie.After-put-bytes → tie.Start
+word-start c = c .before .before .before
+
+word : (c : tie.After-put-bytes) → Written 6 (stripText ++ (32 ∷ [])) (c .put-bytes .last .1 .0) (c .put-bytes .result)
 word c = more (stripText ++ (32 ∷ [])) 6 (nothing _ refl) (c .put-bytes .ensures) (c .put-bytes .kept .1 .0) (omega arith)
 
-shades : (c : tie.After-put-number)
-    → let k = c .before .before .before .before .before .before .args .s .k in
-    Written 27 ((stripText ++ (32 ∷ [])) ++ (decimal k ++ (32 ∷ []))) (c .put-number .last .1 .1 .0) (c .put-number .result)
-shades c =
-    let f = c .before .before .before .before .before .before in
-    more-number (f .args .s .k) 32 (strip-fits (f .pre) .0) (word (c .before .before .before)) (c .put-number .ensures) (c .put-number .kept .1 .1 .0)
+-- k is written
+abbrev shades-start : tie.After-put-number → tie.Start
+shades-start c = word-start (c .before .before .before)
 
-marks : (c : tie.After-put-number2)
-    → let s = c .before .before .before .before .before .before .before .before .before .args .s in
-    Written 48 (((stripText ++ (32 ∷ [])) ++ (decimal (s .k) ++ (32 ∷ []))) ++ (decimal (s .n) ++ (32 ∷ []))) (c .put-number2 .last .1 .1 .0) (c .put-number2 .result)
-marks c =
-    let f = c .before .before .before .before .before .before .before .before .before in
-    more-number (f .args .s .n) 32 (strip-fits (f .pre) .1) (shades (c .before .before .before)) (c .put-number2 .ensures) (c .put-number2 .kept .1 .1 .0)
+shades : (c : tie.After-put-number)
+    → Written 27 (spaced (stripText ++ (32 ∷ [])) (shades-start c .args .s .k)) (c .put-number .last .1 .1 .0) (c .put-number .result)
+shades c = more-number _ 32 (strip-fits (shades-start c .pre) .0) (word (c .before .before .before)) (c .put-number .ensures) (c .put-number .kept .1 .1 .0)
+
+-- n is written
+abbrev marks-start : tie.After-put-number2 → tie.Start
+marks-start c = shades-start (c .before .before .before)
+
+marks : (c : tie.After-put-number2) → let s = marks-start c .args .s in
+    Written 48 (spaced (spaced (stripText ++ (32 ∷ [])) (s .k)) (s .n)) (c .put-number2 .last .1 .1 .0) (c .put-number2 .result)
+marks c = more-number _ 32 (strip-fits (marks-start c .pre) .1) (shades (c .before .before .before)) (c .put-number2 .ensures) (c .put-number2 .kept .1 .1 .0)
 
 slice-aggregate-put-bytes : tie.Need-slice-aggregate-put-bytes
 slice-aggregate-put-bytes c = search needs
@@ -41,32 +44,26 @@ slice-aggregate-put-number : tie.Need-slice-aggregate-put-number
 slice-aggregate-put-number c = search needs
 
 put-number-requires : tie.Need-put-number-requires
-put-number-requires c κs =
-    let f = c .before .before .before .before .before in
-    number-room (f .args .s .k) (strip-fits (f .pre) .0) (word (c .before .before)) (omega arith)
+put-number-requires c κs = let at = c .before .before in number-room _ (strip-fits (word-start at .pre) .0) (word at) (omega arith)
 
 slice-aggregate-put-number-2 : tie.Need-slice-aggregate-put-number-2
 slice-aggregate-put-number-2 c = search needs
 
 put-number-requires-2 : tie.Need-put-number-requires-2
-put-number-requires-2 c κs =
-    let f = c .before .before .before .before .before .before .before .before in
-    number-room (f .args .s .n) (strip-fits (f .pre) .1) (shades (c .before .before)) (omega arith)
+put-number-requires-2 c κs = let at = c .before .before in number-room _ (strip-fits (shades-start at .pre) .1) (shades at) (omega arith)
 
 slice-aggregate-put-number-3 : tie.Need-slice-aggregate-put-number-3
 slice-aggregate-put-number-3 c = search needs
 
 put-number-requires-3 : tie.Need-put-number-requires-3
-put-number-requires-3 c κs =
-    let f = c .before .before .before .before .before .before .before .before .before .before .before in
-    number-room (f .args .s .size) (strip-fits (f .pre) .2) (marks (c .before .before)) (omega arith)
+put-number-requires-3 c κs = let at = c .before .before in number-room _ (strip-fits (marks-start at .pre) .2) (marks at) (omega arith)
 
 returns : tie.Need-returns
 returns c =
-    let f = c .before .before .before .before .before .before .before .before .before .before .before .before .before in
-    let g = c .before .put-number3 in
-    let w = more-number (f .args .s .size) 10 (strip-fits (f .pre) .2) (marks (c .before .before .before .before)) (g .ensures) (g .kept .1 .1 .0) in
-    line-is w (omega arith) (strip-text (f .pre))
+    let at = c .before .before .before .before in
+    let shaped = marks-start at .pre in
+    let put = c .before .put-number3 in
+    line-is (more-number _ 10 (strip-fits shaped .2) (marks at) (put .ensures) (put .kept .1 .1 .0)) (omega arith) (strip-text shaped)
 
 pub strip-line-spec : {M : Type 1} → statement M
 strip-line-spec =

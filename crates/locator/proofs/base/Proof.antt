@@ -1,8 +1,8 @@
 -- `places::base` meets its contract: the smallest rotation, or the largest necklace below what follows the turn, with zeros after it.
-use mathlib.Core.Path.{sym, _∙_, ap, subst}
-use Prim.Native.Nat.{_-_}
+use mathlib.Core.Path.{_≡_, sym, _∙_, ap, subst}
+use mathlib.Core.List.{_++_}
 use native.Mathlib.Omega.{arith}
-use lib.ListN.{length, drop, length-take, length-drop}
+use lib.ListN.{drop, replicate, length-take, length-drop}
 use borrow.Author.Needs.{needs}
 use Rattle.floors.specs.Lowering.{Lowerable}
 use Rattle.theory.specs.Floors.{necklaceBelow}
@@ -17,7 +17,9 @@ same-length : tie.Need-same-length
 same-length c = search needs
 
 returns : tie.Need-returns
-returns c = c .before .before .copy-turned .ensures ∙ base-turned (c .before .before .before .before .before .before .before .pre) (omega arith)
+returns c =
+    let at = c .before .before in
+    at .copy-turned .ensures ∙ base-turned (at .before .before .before .before .before .pre) (omega arith)
 
 sub-copy : tie.Need-sub-copy
 sub-copy c = search needs
@@ -29,36 +31,30 @@ part-copy-end : tie.Need-part-copy-end
 part-copy-end c = search needs
 
 copy-requires : tie.Need-copy-requires
-copy-requires c κs =
-    let s = c .before .before .before .before .before in
-    let w = s .args .w .now in
-    let i = s .args .turn in
-    omega (arith, based-length (s .pre), length-take (length w - i) (drop i w), length-drop i w)
+copy-requires c κs = simp (length-take, length-drop) (omega (arith, based-length (c .before .before .before .before .before .pre)))
+
+-- after the copy: what follows the turn, with zeros after it
+abbrev start : tie.After-copy → tie.Start
+start c = c .before .before .before .before .before .before
+
+padded : (c : tie.After-copy) → let a = start c .args in c .copy .last .1 .0 ≡ drop (a .turn) (a .w .now) ++ replicate (a .turn) 0
+padded c = c .copy .ensures ∙ base-copied (start c .pre)
 
 lower-requires : tie.Need-lower-requires
 lower-requires c κs =
-    let s = c .before .before .before .before .before .before .before .before .before in
-    subst (Lowerable (s .args .k)) (sym (c .before .before .before .copy .ensures ∙ base-copied (s .pre))) (s .pre .lowers (omega arith))
+    let at = c .before .before .before in
+    subst (Lowerable (start at .args .k)) (sym (padded at)) (start at .pre .lowers (omega arith))
 
 same-length-2 : tie.Need-same-length-2
 same-length-2 c = search needs
 
 returns-2 : tie.Need-returns-2
 returns-2 c =
-    let s = c .before .before .before .before .before .before .before .before .before .before .before .before in
-    c .before .before .lower .ensures ∙ ap (necklaceBelow (s .args .k)) (c .before .before .before .before .before .before .copy .ensures ∙ base-copied (s .pre)) ∙ base-lowered (s .pre) (omega arith)
+    let lowered = c .before .before in
+    let at = lowered .before .before .before .before in
+    lowered .lower .ensures ∙ ap (necklaceBelow (start at .args .k)) (padded at) ∙ base-lowered (start at .pre) (omega arith)
 
 pub base-spec : {M : Type 1} → statement M
 base-spec =
     tie.close
-    (tie.spec
-    copy-turned-requires
-    same-length
-    returns
-    sub-copy
-    part-copy-start
-    part-copy-end
-    copy-requires
-    lower-requires
-    same-length-2
-    returns-2)
+    (tie.spec copy-turned-requires same-length returns sub-copy part-copy-start part-copy-end copy-requires lower-requires same-length-2 returns-2)

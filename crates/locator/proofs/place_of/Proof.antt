@@ -1,10 +1,9 @@
 -- `places::place_of` meets its contract: at the wrap, or where the letters from the word that the window begins in first fit it.
-use mathlib.Core.Path.{_≡_, refl, sym, _∙_}
-use Prim.Native.Nat.{_+_, _-_}
+use mathlib.Core.Path.{refl, sym, _∙_}
+use Prim.Native.Nat.{_-_}
 use native.Mathlib.Omega.{arith}
-use lib.ListN.{length, replicate}
+use lib.ListN.{replicate}
 use lib.Seq.{length-take-le}
-use Rattle.theory.specs.Strips.{placeOf}
 use Rattle.shape.proofs.Limits.{limits}
 use Rattle.locator.proofs.Leading.{leading-length, replicate-take}
 use Rattle.locator.proofs.Locates.{Located, place-small, base-counted}
@@ -23,10 +22,10 @@ count-leading-requires : tie.Need-count-leading-requires
 count-leading-requires c κs = search needs
 
 sub-count-leading-2 : tie.Need-sub-count-leading-2
-sub-count-leading-2 c = let s = c .before .before in omega (arith, c .count-leading .ensures, leading-length (s .args .s .k - 1) (s .args .w .now))
+sub-count-leading-2 c = let a = c .before .before .args in omega (arith, c .count-leading .ensures, leading-length (a .s .k - 1) (a .w .now))
 
 part-count-leading-start : tie.Need-part-count-leading-start
-part-count-leading-start c = let s = c .before .before in omega (arith, c .count-leading .ensures, leading-length (s .args .s .k - 1) (s .args .w .now))
+part-count-leading-start c = omega (arith, sub-count-leading-2 c)
 
 part-count-leading-end : tie.Need-part-count-leading-end
 part-count-leading-end c = search needs
@@ -34,123 +33,115 @@ part-count-leading-end c = search needs
 count-leading-requires-2 : tie.Need-count-leading-requires-2
 count-leading-requires-2 c κs = search needs
 
+-- after both counts: where they began
+abbrev start : tie.After-count-leading2 → tie.Start
+start c = c .before .before .before .before
+
 add-if1 : tie.Need-add-if1
-add-if1 c =
-    let s = c .before .before .before .before in
-    omega (arith, counts-inside (s .pre) (c .before .before .count-leading .ensures) (c .count-leading2 .ensures), s .good)
+add-if1 c = omega (arith, counts-inside (start c .pre) (c .before .before .count-leading .ensures) (c .count-leading2 .ensures), start c .good)
 
 wrapped-requires : tie.Need-wrapped-requires
 wrapped-requires c κs =
-    let p = c .before in
-    wrapped-inside (p .before .before .before .before .pre) (p .before .before .count-leading .ensures) (p .count-leading2 .ensures) (c .if1 .taken)
+    let counted = c .before in
+    wrapped-inside (start counted .pre) (counted .before .before .count-leading .ensures) (counted .count-leading2 .ensures) (c .if1 .taken)
 
 returns : tie.Need-returns
 returns c =
-    let p = c .before .before in
+    let counted = c .before .before in
     c .wrapped .ensures
-    ∙ wrapped-place (p .before .before .before .before .pre) (p .before .before .count-leading .ensures) (p .count-leading2 .ensures) (c .before .if1 .taken)
+    ∙ wrapped-place (start counted .pre) (counted .before .before .count-leading .ensures) (counted .count-leading2 .ensures) (c .before .if1 .taken)
 
 least-turn-requires : tie.Need-least-turn-requires
 least-turn-requires c κs = search needs
 
+-- after `least_turn`: the window is no longer than the buffer
 array-borrow-prefix-room : tie.Need-array-borrow-prefix-room
-array-borrow-prefix-room c = let s = c .before .before .before .before .before .before in omega (arith, s .pre .long, limits (s .pre .shaped) .short)
+array-borrow-prefix-room c = let on = start (c .before .before) .pre in omega (arith, on .long, limits (on .shaped) .short)
 
 slice-aggregate-v : tie.Need-slice-aggregate-v
-slice-aggregate-v c =
-    let s = c .before .before .before .before .before .before .before in
-    let w = s .args .w .now in
-    sym (length-take-le (length w) (replicate 60 0) (omega (arith, s .pre .long, limits (s .pre .shaped) .short)))
+slice-aggregate-v c = sym (length-take-le _ (replicate 60 0) (array-borrow-prefix-room (c .before)))
 
 base-requires : tie.Need-base-requires
 base-requires c κs =
-    let e = c .before .before .before in
-    let p = e .before in
-    let s = p .before .before .before .before in
-    let w = s .args .w .now in
-    turn-based (s .pre) (p .before .before .count-leading .ensures) (p .count-leading2 .ensures) (e .if1 .left) (c .before .before .least-turn .ensures)
-    (replicate-take (length w) 60 0 (omega (arith, s .pre .long, limits (s .pre .shaped) .short)))
+    let turned = c .before .before in
+    let counted = turned .before .before in
+    turn-based (start counted .pre) (counted .before .before .count-leading .ensures) (counted .count-leading2 .ensures) (turned .before .if1 .left)
+    (turned .least-turn .ensures) (replicate-take _ 60 0 (array-borrow-prefix-room turned))
 
 -- after `base`: the word that the window begins in
-located-at : (c : tie.After-base) → let s = c .before .before .before .before .before .before .before .before .before in
-    Located (s .args .s .k) (s .args .s .n) (s .args .w .now) (c .before .before .before .least-turn .result) (c .base .last .1 .1 .1 .1 .0)
+abbrev begun : tie.After-base → tie.Start
+begun c = start (c .before .before .before .before .before)
+
+located-at : (c : tie.After-base) → let a = begun c .args in
+    Located (a .s .k) (a .s .n) (a .w .now) (c .before .before .before .least-turn .result) (c .base .last .1 .1 .1 .1 .0)
 located-at c =
-    let e = c .before .before .before .before in
-    let p = e .before in
-    let s = p .before .before .before .before in
-    turn-located (s .pre) (p .before .before .count-leading .ensures) (p .count-leading2 .ensures) (e .if1 .left) (c .before .before .before .least-turn .ensures) (c .base .ensures)
+    let turned = c .before .before .before in
+    let counted = turned .before .before in
+    turn-located (begun c .pre) (counted .before .before .count-leading .ensures) (counted .count-leading2 .ensures) (turned .before .if1 .left)
+    (turned .least-turn .ensures) (c .base .ensures)
 
 slice-aggregate-whole : tie.Need-slice-aggregate-whole
 slice-aggregate-whole c = search needs
 
 whole-requires : tie.Need-whole-requires
 whole-requires c κs =
-    let a = c .before .before .before .before in
-    let (counted, pre, top) = base-counted (a .before .before .before .before .before .before .before .before .before .pre) (located-at a) in
+    let based = c .before .before .before .before in
+    let (counted, pre, top) = base-counted (begun based .pre) (located-at based) in
     (counted, pre, top, refl)
 
 shortest-root-requires : tie.Need-shortest-root-requires
 shortest-root-requires c κs = search needs
 
-add-letters : tie.Need-add-letters
-add-letters c =
-    let a = c .before .before .before .before .before .before .before .before in
-    omega (arith, letters-short (a .before .before .before .before .before .before .before .before .before .pre) (located-at a) (c .shortest-root .ensures))
+-- after `shortest_root`: where the word's end was found, and where the word was
+abbrev ended : tie.After-shortest-root → tie.After-whole
+ended c = c .before .before .before
 
+abbrev word : tie.After-shortest-root → tie.After-base
+word c = ended c .before .before .before .before .before
+
+-- the word and as many letters as the window has fit the buffer
 array-borrow-prefix-letters : tie.Need-array-borrow-prefix-letters
-array-borrow-prefix-letters c =
-    let a = c .before .before .before .before .before .before .before .before in
-    letters-short (a .before .before .before .before .before .before .before .before .before .pre) (located-at a) (c .shortest-root .ensures)
+array-borrow-prefix-letters c = letters-short (begun (word c) .pre) (located-at (word c)) (c .shortest-root .ensures)
+
+add-letters : tie.Need-add-letters
+add-letters c = omega (arith, array-borrow-prefix-letters c)
 
 slice-aggregate-text : tie.Need-slice-aggregate-text
-slice-aggregate-text c =
-    let r = c .before in
-    let a = r .before .before .before .before .before .before .before .before in
-    let s = a .before .before .before .before .before .before .before .before .before in
-    sym (length-take-le (r .shortest-root .result + length (s .args .w .now)) (replicate 120 0) (letters-short (s .pre) (located-at a) (r .shortest-root .ensures)))
+slice-aggregate-text c = sym (length-take-le _ (replicate 120 0) (array-borrow-prefix-letters (c .before)))
 
 write-from-requires : tie.Need-write-from-requires
 write-from-requires c κs =
-    let r = c .before .before in
-    let a = r .before .before .before .before .before .before .before .before in
-    word-held (a .before .before .before .before .before .before .before .before .before .pre) (located-at a) (r .shortest-root .ensures)
+    let rooted = c .before .before in
+    word-held (begun (word rooted) .pre) (located-at (word rooted)) (rooted .shortest-root .ensures)
+
+-- after `write_from`: the text holds the letters from that word on
+abbrev root-of : tie.After-write-from → tie.After-shortest-root
+root-of c = c .before .before .before
 
 sub-result : tie.Need-sub-result
 sub-result c =
-    let r = c .before .before .before .before .before .before in
-    let a = r .before .before .before .before .before .before .before .before in
-    word-inside (a .before .before .before .before .before .before .before .before .before .pre) (located-at a) (r .shortest-root .ensures) (r .before .before .before .whole .ensures)
+    let rooted = root-of (c .before .before .before) in
+    word-inside (begun (word rooted) .pre) (located-at (word rooted)) (rooted .shortest-root .ensures) (ended rooted .whole .ensures)
 
 first-fit-requires : tie.Need-first-fit-requires
 first-fit-requires c κs =
-    let f = c .before .before .before .before in
-    let r = f .before .before .before in
-    let a = r .before .before .before .before .before .before .before .before in
-    let s = a .before .before .before .before .before .before .before .before .before in
-    text-room (s .pre) (located-at a) (r .shortest-root .ensures) (f .write-from .ensures)
-    (length-take-le (r .shortest-root .result + length (s .args .w .now)) (replicate 120 0) (letters-short (s .pre) (located-at a) (r .shortest-root .ensures)))
+    let written = c .before .before .before .before in
+    let rooted = root-of written in
+    text-room (begun (word rooted) .pre) (located-at (word rooted)) (rooted .shortest-root .ensures) (written .write-from .ensures)
+    (sym (slice-aggregate-text (written .before .before)))
 
--- at the end: the sum is the place
-sum-place : (c : tie.After-text3) →
-    let r = c .before .before .before .before .before .before .before .before .before in
-    let s = r .before .before .before .before .before .before .before .before .before .before .before .before .before .before .before .before .before in
-    r .before .before .before .whole .result - r .shortest-root .result + c .before .first-fit .result ≡ placeOf (s .args .s .k) (s .args .s .n) (s .args .w .now)
-sum-place c =
-    let f = c .before .before .before .before .before .before in
-    let r = f .before .before .before in
-    let a = r .before .before .before .before .before .before .before .before in
-    let s = a .before .before .before .before .before .before .before .before .before in
-    text-place (s .pre) (located-at a) (r .shortest-root .ensures) (f .write-from .ensures)
-    (length-take-le (r .shortest-root .result + length (s .args .w .now)) (replicate 120 0) (letters-short (s .pre) (located-at a) (r .shortest-root .ensures)))
-    (r .before .before .before .whole .ensures) (c .before .first-fit .ensures)
+-- at the end: the sum is the place, so it is small
+returns-2 : tie.Need-returns-2
+returns-2 c =
+    let written = c .before .before .before .before .before .before in
+    let rooted = root-of written in
+    text-place (begun (word rooted) .pre) (located-at (word rooted)) (rooted .shortest-root .ensures) (written .write-from .ensures)
+    (sym (slice-aggregate-text (written .before .before))) (ended rooted .whole .ensures) (c .before .first-fit .ensures)
 
 add-result : tie.Need-add-result
 add-result c =
-    let r = c .before .before .before .before .before .before .before .before .before in
-    omega (arith, sum-place c, place-small (r .before .before .before .before .before .before .before .before .before .before .before .before .before .before .before .before .before .pre))
-
-returns-2 : tie.Need-returns-2
-returns-2 c = sum-place c
+    let written = c .before .before .before .before .before .before in
+    omega (arith, returns-2 c, place-small (begun (word (root-of written)) .pre))
 
 pub place-of-spec : {M : Type 1} → statement M
 place-of-spec =

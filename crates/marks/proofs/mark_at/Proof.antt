@@ -3,8 +3,8 @@ use mathlib.Core.Path.{refl, _∙_, ap₂}
 use borrow.Author.Needs.{needs}
 use Rattle.theory.specs.Strips.{markAt}
 use Rattle.calls.specs.Refusals.{placeFault}
-use Rattle.calls.proofs.Checks.{refused-by, passed, place-checked}
-use Rattle.calls.proofs.Answers.{number-refused, number-given}
+use Rattle.calls.proofs.Checks.{passed, place-checked}
+use Rattle.calls.proofs.Answers.{number-refused-by, number-given}
 use Rattle.marks.proofs.mark_at.Statement.{statement}
 use Rattle.marks.proofs.mark_at.Tie as tie
 
@@ -33,8 +33,7 @@ returns : tie.Need-returns
 returns c =
     let checked = c .before .before .before in
     let a = checked .before .before .args in
-    let (is, some) = refused-by (placeFault (a .k) (a .n) (a .place)) (a .k) (a .n) (checked .check-place .ensures) (c .before .number .given .1) in
-    number-refused (markAt (a .k) (a .n) (a .place)) (a .tray .now) is some refl
+    number-refused-by (placeFault (a .k) (a .n) (a .place)) (a .k) (a .n) (markAt (a .k) (a .n) (a .place)) (a .tray .now) (checked .check-place .ensures) (c .before .number .given .1) refl
 
 same-length : tie.Need-same-length
 same-length c = search needs

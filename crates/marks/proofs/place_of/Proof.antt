@@ -3,8 +3,8 @@ use mathlib.Core.Path.{refl, _∙_, ap₂}
 use borrow.Author.Needs.{needs}
 use Rattle.theory.specs.Strips.{placeOf}
 use Rattle.calls.specs.Refusals.{theWordFault}
-use Rattle.calls.proofs.Checks.{refused-by, passed, word-checked}
-use Rattle.calls.proofs.Answers.{number-refused, number-given}
+use Rattle.calls.proofs.Checks.{passed, word-checked}
+use Rattle.calls.proofs.Answers.{number-refused-by, number-given}
 use Rattle.marks.proofs.place_of.Statement.{statement}
 use Rattle.marks.proofs.place_of.Tie as tie
 
@@ -30,8 +30,7 @@ returns c =
     let checked = c .before .before .before in
     let a = checked .before .before .before .args in
     let w = a .window .now in
-    let (is, some) = refused-by (theWordFault (a .k) (a .n) w) (a .k) (a .n) (checked .check-word .ensures) (c .before .number .given .1) in
-    number-refused (placeOf (a .k) (a .n) w) (a .tray .now) is some refl
+    number-refused-by (theWordFault (a .k) (a .n) w) (a .k) (a .n) (placeOf (a .k) (a .n) w) (a .tray .now) (checked .check-word .ensures) (c .before .number .given .1) refl
 
 same-length : tie.Need-same-length
 same-length c = search needs

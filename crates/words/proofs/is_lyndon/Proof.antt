@@ -3,8 +3,8 @@ use mathlib.Core.Path.{refl, sym, _∙_, ap}
 use borrow.Author.Needs.{needs}
 use Rattle.theory.specs.Words.{pick, isLyndon}
 use Rattle.calls.specs.Refusals.{theWordFault}
-use Rattle.calls.proofs.Checks.{refused-by, passed}
-use Rattle.calls.proofs.Answers.{value-refused, value-answer}
+use Rattle.calls.proofs.Checks.{passed}
+use Rattle.calls.proofs.Answers.{value-refused-by, value-answer}
 use Rattle.words.proofs.is_lyndon.Statement.{statement}
 use Rattle.words.proofs.is_lyndon.Tie as tie
 
@@ -33,8 +33,7 @@ returns-2 c =
     let checked = c .before .before .before in
     let a = checked .before .before .args in
     let w = a .word .now in
-    let (is, some) = refused-by (theWordFault (a .k) (a .n) w) (a .k) (a .n) (checked .check-word .ensures) (c .before .number .given .1) in
-    value-refused (pick (isLyndon w) 1 0) is some (refl, refl)
+    value-refused-by (theWordFault (a .k) (a .n) w) (a .k) (a .n) (pick (isLyndon w) 1 0) (checked .check-word .ensures) (c .before .number .given .1) (refl, refl)
 
 returns-3 : tie.Need-returns-3
 returns-3 c =

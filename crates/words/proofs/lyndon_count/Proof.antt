@@ -3,8 +3,8 @@ use mathlib.Core.Path.{refl, _∙_, ap₂}
 use borrow.Author.Needs.{needs}
 use Rattle.theory.specs.Words.{howMany}
 use Rattle.calls.specs.Refusals.{stripFault}
-use Rattle.calls.proofs.Checks.{refused-by, passed, strip-checked}
-use Rattle.calls.proofs.Answers.{value-refused, value-answer}
+use Rattle.calls.proofs.Checks.{passed, strip-checked}
+use Rattle.calls.proofs.Answers.{value-refused-by, value-answer}
 use Rattle.words.proofs.lyndon_count.Statement.{statement}
 use Rattle.words.proofs.lyndon_count.Tie as tie
 
@@ -26,8 +26,7 @@ returns : tie.Need-returns
 returns c =
     let checked = c .before .before .before in
     let a = checked .before .args in
-    let (is, some) = refused-by (stripFault (a .k) (a .n)) (a .k) (a .n) (checked .check-strip .ensures) (c .before .number .given .1) in
-    value-refused (howMany (a .k) (a .n)) is some (refl, refl)
+    value-refused-by (stripFault (a .k) (a .n)) (a .k) (a .n) (howMany (a .k) (a .n)) (checked .check-strip .ensures) (c .before .number .given .1) (refl, refl)
 
 returns-2 : tie.Need-returns-2
 returns-2 c =

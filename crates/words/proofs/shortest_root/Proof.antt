@@ -3,8 +3,8 @@ use mathlib.Core.Path.{refl}
 use borrow.Author.Needs.{needs}
 use Rattle.theory.specs.Words.{root}
 use Rattle.calls.specs.Refusals.{theWordFault}
-use Rattle.calls.proofs.Checks.{refused-by, passed}
-use Rattle.calls.proofs.Answers.{value-refused, value-answer}
+use Rattle.calls.proofs.Checks.{passed}
+use Rattle.calls.proofs.Answers.{value-refused-by, value-answer}
 use Rattle.words.proofs.shortest_root.Statement.{statement}
 use Rattle.words.proofs.shortest_root.Tie as tie
 
@@ -25,8 +25,7 @@ returns c =
     let checked = c .before .before .before in
     let a = checked .before .before .args in
     let w = a .word .now in
-    let (is, some) = refused-by (theWordFault (a .k) (a .n) w) (a .k) (a .n) (checked .check-word .ensures) (c .before .number .given .1) in
-    value-refused (root w) is some (refl, refl)
+    value-refused-by (theWordFault (a .k) (a .n) w) (a .k) (a .n) (root w) (checked .check-word .ensures) (c .before .number .given .1) (refl, refl)
 
 returns-2 : tie.Need-returns-2
 returns-2 c =

@@ -7,8 +7,8 @@ use Rattle.theory.proofs.Necklaces.{smallest-length}
 use Rattle.buffers.specs.Buffers.{over}
 use Rattle.rotations.proofs.Turns.{least-turn-smallest, turn-fits}
 use Rattle.calls.specs.Refusals.{theWordFault}
-use Rattle.calls.proofs.Checks.{refused-by, passed}
-use Rattle.calls.proofs.Answers.{into-refused, into-small, into-answer}
+use Rattle.calls.proofs.Checks.{passed}
+use Rattle.calls.proofs.Answers.{into-refused-by, into-small, into-answer}
 use Rattle.words.proofs.smallest_rotation.Statement.{statement}
 use Rattle.words.proofs.smallest_rotation.Tie as tie
 
@@ -51,8 +51,7 @@ returns-2 c =
     let checked = c .before .before .before in
     let a = checked .before .before .before .args in
     let w = a .word .now in
-    let (is, some) = refused-by (theWordFault (a .k) (a .n) w) (a .k) (a .n) (checked .check-word .ensures) (c .before .number .given .1) in
-    into-refused (smallest w) (a .tray .now) is some refl
+    into-refused-by (theWordFault (a .k) (a .n) w) (a .k) (a .n) (smallest w) (a .tray .now) (checked .check-word .ensures) (c .before .number .given .1) refl
 
 same-length : tie.Need-same-length
 same-length c = search needs

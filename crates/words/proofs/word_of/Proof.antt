@@ -7,8 +7,8 @@ use lib.Seq.{length-take-le}
 use borrow.Author.Needs.{needs}
 use Rattle.theory.specs.Words.{wordOf, howMany}
 use Rattle.calls.specs.Refusals.{indexFault}
-use Rattle.calls.proofs.Checks.{StripIs, refused-by, passed}
-use Rattle.calls.proofs.Answers.{into-refused, into-small, into-answer, part-over}
+use Rattle.calls.proofs.Checks.{StripIs, passed}
+use Rattle.calls.proofs.Answers.{into-refused-by, into-small, into-answer, part-over}
 use Rattle.words.proofs.Indexes.{index-long, index-checked}
 use Rattle.words.proofs.word_of.Statement.{statement}
 use Rattle.words.proofs.word_of.Tie as tie
@@ -68,8 +68,7 @@ returns-2 : tie.Need-returns-2
 returns-2 c =
     let checked = c .before .before .before in
     let a = checked .before .before .args in
-    let (is, some) = refused-by (indexFault (a .k) (a .n) (a .index)) (a .k) (a .n) (checked .check-index .ensures) (c .before .number .given .1) in
-    into-refused (wordOf (a .k) (a .n) (a .index)) (a .tray .now) is some refl
+    into-refused-by (indexFault (a .k) (a .n) (a .index)) (a .k) (a .n) (wordOf (a .k) (a .n) (a .index)) (a .tray .now) (checked .check-index .ensures) (c .before .number .given .1) refl
 
 same-length : tie.Need-same-length
 same-length c = search needs
