@@ -11,7 +11,7 @@ use plans::Section;
 use shape::Strip;
 
 // Bytes that hold any line.
-pub const LINE: usize = 128;
+const LINE: usize = 128;
 
 // A line in the first `long` bytes.
 pub struct Line {

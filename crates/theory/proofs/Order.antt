@@ -137,9 +137,6 @@ not-lt {u} {v} n = elim (tri u v) [ is-lt p ↦ lt-le p | is-eq p ↦ eq-le p | 
 pub le-not-lt : {u v : List ℕ} → Le u v → ¬ Lt v u
 le-not-lt p q = lt-irrefl (le-lt-trans p q)
 
-pub not-le : {u v : List ℕ} → ¬ Le u v → Lt v u
-not-le {u} {v} n = elim (tri u v) [ is-lt p ↦ absurd (n (lt-le p)) | is-eq p ↦ absurd (n (eq-le p)) | is-gt p ↦ p ]
-
 pub not-below : {u v : List ℕ} → below u v ≡ false → Le v u
 not-below {u} {v} h = not-lt (λ p. false≢true (sym h ∙ lt-below p))
 
@@ -155,9 +152,6 @@ le-upTo {u} {v} p = elim (le-cases p) [ inl q ↦ less-so q (test (same u v)) | 
 
 pub upTo-le : (u v : List ℕ) → upTo u v ≡ true → Le u v
 upTo-le u v h = elim (test (same u v)) [ inl t ↦ eq-le (same-eq u v t) | inr t ↦ lt-le (below-lt u v (rw t at h)) ]
-
-pub not-upTo : {u v : List ℕ} → upTo u v ≡ false → Lt v u
-not-upTo {u} {v} h = not-le (λ p. false≢true (sym h ∙ le-upTo p))
 
 pub lt-not-upTo : {u v : List ℕ} → Lt v u → upTo u v ≡ false
 lt-not-upTo {u} {v} p = elim (test (upTo u v)) [ inl t ↦ absurd (le-not-lt (upTo-le u v t) p) | inr t ↦ t ]
