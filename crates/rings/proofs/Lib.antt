@@ -1,4 +1,4 @@
--- The way from a word of the strip to the next, and the strip's letters from a place on.
+-- A word of the ring, the way from one to the next, and the letters from a place on.
 pub mod Ways
 pub mod Moving
 pub mod Printing

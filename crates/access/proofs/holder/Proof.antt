@@ -1,4 +1,4 @@
--- `positions::holder` finds the word that holds a position.
+-- `access::holder` finds the word that holds a position.
 use mathlib.Core.Path.{refl, ap₂}
 use Prim.Native.Nat.{_+_, _-_}
 use native.Mathlib.Omega.{arith}

@@ -1,4 +1,4 @@
--- `positions::letter` reads the letter at a position.
+-- `access::letter` reads the letter at a position.
 use mathlib.Core.Path.{sym}
 use native.Mathlib.Omega.{arith}
 use Rattle.shape.proofs.Limits.{limits}

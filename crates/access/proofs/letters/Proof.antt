@@ -1,4 +1,4 @@
--- `positions::letters` writes the letters from a position on.
+-- `access::letters` writes the letters from a position on.
 use mathlib.Core.Path.{sym, _∙_, ap}
 use native.Mathlib.Omega.{arith}
 use lib.ListN.{length}

@@ -1,4 +1,4 @@
--- `positions::position` is the place of a letter of a held word.
+-- `access::position` is the place of a letter of a held word.
 use mathlib.Core.Path.{refl}
 use Prim.Native.Nat.{_-_}
 use native.Mathlib.Omega.{arith}

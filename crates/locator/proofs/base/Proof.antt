@@ -1,4 +1,4 @@
--- `places::base` meets its contract: the smallest rotation, or the largest necklace below what follows the turn, with zeros after it.
+-- `locator::base` meets its contract: the smallest rotation, or the largest necklace below what follows the turn, with zeros after it.
 use mathlib.Core.Path.{_≡_, sym, _∙_, ap, subst}
 use mathlib.Core.List.{_++_}
 use native.Mathlib.Omega.{arith}

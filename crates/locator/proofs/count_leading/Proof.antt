@@ -1,4 +1,4 @@
--- `places::count_leading` meets its contract: i letters b so far, and as many more as stand at the start of what is left.
+-- `locator::count_leading` meets its contract: i letters b so far, and as many more as stand at the start of what is left.
 use mathlib.Core.Path.{_≡_, sym, _∙_}
 use Prim.Native.Nat.{_+_, _-_, _≤_}
 use native.Mathlib.Omega.{arith}

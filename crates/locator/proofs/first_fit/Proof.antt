@@ -1,4 +1,4 @@
--- `places::first_fit` meets its contract: no offset before p fits, and at p the first j letters agree.
+-- `locator::first_fit` meets its contract: no offset before p fits, and at p the first j letters agree.
 use mathlib.Core.Path.{_≡_, refl, sym, _∙_}
 use Prim.Native.Nat.{_+_, _-_, _≤_}
 use native.Mathlib.Omega.{arith}

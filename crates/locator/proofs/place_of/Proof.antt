@@ -1,4 +1,4 @@
--- `places::place_of` meets its contract: at the wrap, or where the letters from the word that the window begins in first fit it.
+-- `locator::place_of` meets its contract: at the wrap, or where the letters from the word that the window begins in first fit it.
 use mathlib.Core.Path.{refl, sym, _∙_}
 use Prim.Native.Nat.{_-_}
 use native.Mathlib.Omega.{arith}

@@ -1,4 +1,4 @@
--- `places::wrapped` meets its contract: the branch decides the test.
+-- `locator::wrapped` meets its contract: the branch decides the test.
 use mathlib.Core.Path.{sym, ap}
 use Prim.Native.Nat.{_-_}
 use borrow.Author.Tests.{eq-eqb, ne-eqb}

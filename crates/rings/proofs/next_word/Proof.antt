@@ -1,4 +1,4 @@
--- `walks::next_word` steps through the Lyndon words of at most n letters, up to the strip's next word, and counts them.
+-- `rings::next_word` steps through the Lyndon words of at most n letters, up to the strip's next word, and counts them.
 use native.Mathlib.Omega.{arith}
 use borrow.Author.Needs.{needs}
 use lib.ListN.{take}

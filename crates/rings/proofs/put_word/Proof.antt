@@ -1,4 +1,4 @@
--- `walks::put_word` copies as many letters of the word as the buffer takes.
+-- `rings::put_word` copies as many letters of the word as the buffer takes.
 use mathlib.Core.Path.{_≡_, sym, _∙_, ap}
 use mathlib.Core.Logic.{⊎-elim}
 use native.Mathlib.Omega.{arith}

@@ -1,4 +1,4 @@
--- `walks::write_from` writes the strip's letters: what is left of the word, then word after word, until the buffer is full.
+-- `rings::write_from` writes the strip's letters: what is left of the word, then word after word, until the buffer is full.
 use mathlib.Core.Path.{sym, _∙_}
 use Prim.Native.Nat.{_-_}
 use native.Mathlib.Omega.{arith}

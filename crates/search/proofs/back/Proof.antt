@@ -1,4 +1,4 @@
--- `ranks::back` reads the letter a period back.
+-- `search::back` reads the letter a period back.
 use native.Mathlib.Omega.{arith}
 use borrow.Author.Needs.{needs}
 use Rattle.search.proofs.Searches.{back-start, back-inside}

@@ -1,4 +1,4 @@
--- `ranks::fill` puts one byte everywhere.
+-- `search::fill` puts one byte everywhere.
 use mathlib.Core.Path.{_≡_, refl, sym, _∙_, ap}
 use Prim.Native.Nat.{_+_, _-_, _≤_}
 use native.Mathlib.Omega.{arith}

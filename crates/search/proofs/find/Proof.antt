@@ -1,4 +1,4 @@
--- `ranks::find` finds the word searched for letter by letter.
+-- `search::find` finds the word searched for letter by letter.
 use mathlib.Core.Path.{_≡_, refl, sym, _∙_}
 use Prim.Native.Nat.{_-_}
 use native.Mathlib.Omega.{arith}

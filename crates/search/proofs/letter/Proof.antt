@@ -1,4 +1,4 @@
--- `ranks::letter` bisects for the letter of the word searched for. Invariant: it is from low to high; but for the letter at j the buffer
+-- `search::letter` bisects for the letter of the word searched for. Invariant: it is from low to high; but for the letter at j the buffer
 -- is as before.
 use mathlib.Core.Path.{_≡_, sym, _∙_}
 use Prim.Native.Nat.{ℕ, _+_, _-_, _/_}

@@ -1,4 +1,4 @@
--- `ranks::period_with` gives the period with one letter more.
+-- `search::period_with` gives the period with one letter more.
 use native.Mathlib.Omega.{arith}
 use borrow.Author.Needs.{needs}
 use Rattle.search.proofs.Searches.{period-start, period-grows, period-stays}

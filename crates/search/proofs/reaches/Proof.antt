@@ -1,4 +1,4 @@
--- `ranks::reaches` tells whether a word is at or past the one searched for.
+-- `search::reaches` tells whether a word is at or past the one searched for.
 use mathlib.Core.Path.{sym, _∙_, ap}
 use Prim.Native.Nat.{_^_}
 use borrow.Author.Needs.{needs}
