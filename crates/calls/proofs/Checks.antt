@@ -1,6 +1,6 @@
 -- What the answer of a check says: the strip of k and n and no fault, or the fault's number; and how the answer is found.
 use mathlib.Core.Path.{_≡_, refl, sym, _∙_, ap, ap₂, subst}
-use mathlib.Core.Bool.{Bool, true, false, not}
+use mathlib.Core.Bool.{Bool, true, false, _||_, not, true≢false}
 use mathlib.Core.List.{List}
 use mathlib.Core.Logic.{inl, inr}
 use Prim.Native.Nat.{ℕ, zero, suc, _^_, _≤_, _<_}
@@ -34,6 +34,11 @@ first-none (suc a) b h = absurd (omega arith)
 pub when-none : (t : Bool) (f : ℕ) → ¬ (f ≡ 0) → when t f ≡ 0 → t ≡ false
 when-none true f h e = absurd (h e)
 when-none false f h e = refl
+
+-- tests of which none holds
+pub or-false : (a b : Bool) → (a || b) ≡ false → (a ≡ false) × (b ≡ false)
+or-false true b h = absurd (true≢false h)
+or-false false b h = (refl, h)
 
 -- how the answer is found
 pub refused-with : (f k n : ℕ) {x : ℕ} → f ≡ x → ¬ (x ≡ 0) → Refused x ≡ checkedBy f k n

@@ -1,6 +1,6 @@
 -- The tests of a plan, in their order: torn, no such strip, crooked; and what an accepted plan is known to be.
-use mathlib.Core.Path.{_≡_, refl, sym, _∙_, ap}
-use mathlib.Core.Bool.{Bool, true, false, _||_, not, true≢false}
+use mathlib.Core.Path.{_≡_, sym, _∙_, ap}
+use mathlib.Core.Bool.{Bool, true, false, _||_, not}
 use mathlib.Core.List.{List}
 use Prim.Native.Nat.{ℕ, _+_, _-_, _*_, _/_, _^_, _≤_, _<_}
 use native.Mathlib.Omega.{arith}
@@ -18,7 +18,7 @@ use Rattle.shape.specs.Shapes.{madeOf}
 use Rattle.shape.proofs.Making.{made-none}
 use Rattle.calls.specs.declared.Checked.the-variants.{Strip, Refused}
 use Rattle.calls.specs.Checks.{stripOf}
-use Rattle.calls.proofs.Checks.{refused-with, passed-with, made-admits, made-is}
+use Rattle.calls.proofs.Checks.{or-false, refused-with, passed-with, made-admits, made-is}
 use Rattle.plans.specs.Opened.{openedOf}
 use Rattle.plans.proofs.Pairs.{pairs}
 
@@ -40,10 +40,6 @@ module _ (s : List ℕ) {c : ℕ} (head : 4 ≤ length s) (count : c ≡ section
 pub record Whole (s : List ℕ) : Type 0 where
   pub few : sectionCount s ≤ 500
   pub long : length s ≡ 4 + 16 * sectionCount s
-
-or-false : (a b : Bool) → (a || b) ≡ false → (a ≡ false) × (b ≡ false)
-or-false true b h = absurd (true≢false h)
-or-false false b h = (refl, h)
 
 pub whole : (s : List ℕ) → torn s ≡ false → Whole s
 whole s h =

@@ -1,6 +1,6 @@
 -- An index of a Lyndon word: its fault, what is known without one, and the word's length.
-use mathlib.Core.Path.{_≡_, refl}
-use mathlib.Core.Bool.{Bool, true, false, _||_, true≢false}
+use mathlib.Core.Path.{_≡_}
+use mathlib.Core.Bool.{false, _||_}
 use Prim.Native.Nat.{ℕ, _≤_, _<_}
 use native.Mathlib.Omega.{arith}
 use lib.Dec.{eqb, ltb}
@@ -13,7 +13,7 @@ use Rattle.calls.specs.declared.Checked.{Checked}
 use Rattle.calls.specs.declared.Checked.the-variants.{Strip}
 use Rattle.calls.specs.Refusals.{stripFault, indexFault}
 use Rattle.calls.specs.Checks.{checkedBy}
-use Rattle.calls.proofs.Checks.{first-none, when-none, passed, StripIs, strip-is}
+use Rattle.calls.proofs.Checks.{first-none, when-none, or-false, passed, StripIs, strip-is}
 
 module _ (k n i : ℕ) where
   pub index-zero : i ≡ 0 → when (eqb i 0 || ltb (howMany k n) i) 5 ≡ 5
@@ -27,10 +27,6 @@ module _ (k n i : ℕ) where
 
   pub index-long : 1 ≤ i → i ≤ howMany k n → length (wordOf k n i) ≡ n
   index-long a b = undone .index-word k n i a b .0
-
-  or-false : (a b : Bool) → (a || b) ≡ false → (a ≡ false) × (b ≡ false)
-  or-false true b h = absurd (true≢false h)
-  or-false false b h = (refl, h)
 
   -- the check of an index, passed
   pub index-checked : {c : Checked} {s : DS.Strip} → c ≡ checkedBy (indexFault k n i) k n → c ≡ Strip s → StripIs k n s × (1 ≤ i) × (i ≤ howMany k n)
