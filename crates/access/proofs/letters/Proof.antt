@@ -19,7 +19,7 @@ holder-requires : tie.Need-holder-requires
 holder-requires c κs = let f = c .before .before .before in (f .pre .0, f .pre .1, in-room (f .pre .0))
 
 write-from-requires : tie.Need-write-from-requires
-write-from-requires c κs = let held = c .before .before .before .holder .ensures in (held .held, held .inside)
+write-from-requires c κs = let held = c .before .before .before .holder .ensures in (held .held, omega (arith, held .inside))
 
 same-length : tie.Need-same-length
 same-length c = search needs

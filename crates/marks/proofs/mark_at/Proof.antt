@@ -1,5 +1,6 @@
 -- `mark_at` puts the mark at a place into the tray as 8 bytes; a refusal leaves the tray as it was.
 use mathlib.Core.Path.{refl, _∙_, ap₂}
+use native.Mathlib.Omega.{arith}
 use borrow.Author.Needs.{needs}
 use Rattle.theory.specs.Strips.{markAt}
 use Rattle.calls.specs.Refusals.{placeFault}
@@ -21,7 +22,7 @@ letter-requires : tie.Need-letter-requires
 letter-requires c κs =
     let a = c .before .before .before .before .before .args in
     let (on, inside) = place-checked (a .k) (a .n) (a .place) (c .before .before .before .check-place .ensures) (c .before .strip .given .1) in
-    (on .shaped, inside)
+    (on .shaped, omega (arith, inside))
 
 cast-give : tie.Need-cast-give
 cast-give c = search needs

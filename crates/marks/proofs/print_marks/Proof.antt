@@ -52,7 +52,7 @@ slice-aggregate-letters : tie.Need-slice-aggregate-letters
 slice-aggregate-letters c = let a = c .before .before .before .before .before .before .before .args in sym (length-take-le _ (a .tray .now) (omega arith))
 
 letters-requires : tie.Need-letters-requires
-letters-requires c κs = let (on, inside) = there (c .before .before) in (on .shaped, inside)
+letters-requires c κs = let (on, inside) = there (c .before .before) in (on .shaped, omega (arith, inside))
 
 returns-2 : tie.Need-returns-2
 returns-2 c =
