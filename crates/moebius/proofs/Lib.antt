@@ -1,5 +1,4 @@
 -- Laws behind the proofs of the functions.
-pub mod Tables
 pub mod Signed
 pub mod Passed
 pub mod Turns
