@@ -67,7 +67,7 @@ module _ (k n : ℕ) (a : admitted k n ≡ true) where
   goes p c q at e =
       let x = stepOf (cursorIn c) in
       let (number, mark, passed, (is, tidied)) : (q .number ≡ 0) × (q .mark ≡ x .mark) × (q .passed ≡ x .passed) × Is (x .cursor-is) (q .cursor) = rw (faultless c at) at e in
-      let (reads, good, place, few) = cursors .onward (cursorIn c) (omega (arith, at .letters, l .two)) (omega (arith, at .marks, l .some)) (at .good) in
+      let (reads, good, place, _, few) = cursors .onward (cursorIn c) (omega (arith, at .letters, l .two)) (omega (arith, at .marks, l .some)) (at .good) in
       let kept = step-kept (cursorIn c) in (
         number,
         mark ∙ reads ∙ ap₂ (λ y z. markAt y z (placeIn (cursorIn c))) (at .letters) (at .marks) ∙ ap (markAt k n) (at .place),

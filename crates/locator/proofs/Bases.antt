@@ -6,7 +6,7 @@ use native.Mathlib.Omega.{arith}
 use lib.ListN.{length, take, drop, replicate, length-replicate, length-drop, drop-of-length-le}
 use lib.Seq.{take-all}
 use borrow.Author.Tests.{lt-ltb, le-ltb}
-use Rattle.rotations.proofs.Turns.{turned-length}
+use Rattle.theory.proofs.Turns.{turned-length}
 use Rattle.buffers.specs.Buffers.{over}
 use Rattle.theory.specs.Words.{pick, turned}
 use Rattle.theory.specs.Floors.{necklaceBelow}

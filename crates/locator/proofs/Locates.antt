@@ -28,7 +28,7 @@ use Rattle.shape.specs.declared.Strip as DS
 use Rattle.shape.specs.Shapes.{WordOn}
 use Rattle.shape.proofs.Limits.{Limits, limits}
 use Rattle.floors.specs.Lowering.{Lowerable}
-use Rattle.rotations.proofs.Turns.{least-turn-smallest, least-turn-root}
+use Rattle.theory.proofs.Turns.{least-turn-smallest, least-turn-root}
 use Rattle.automaton.specs.Tables.{Counted}
 use Rattle.rings.specs.Moves.{HeldOn}
 use Rattle.locator.specs.Fits.{leading, firstFit, Based, baseOf}

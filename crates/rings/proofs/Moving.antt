@@ -18,7 +18,7 @@ use Rattle.theory.proofs.Lyndon.{lyndon-some}
 use Rattle.theory.proofs.Divisors.{mod-div, div-mod, divides-out, divides-in, divides-le}
 use Rattle.theory.proofs.Listed.{lyndon-up-words, strip-words}
 use Rattle.theory.proofs.Tops.{one-less}
-use Rattle.theory.proofs.Passed.{passed-none}
+use Rattle.theory.proofs.Steps.{steps}
 use Rattle.shape.specs.declared.Strip as DS
 use Rattle.shape.proofs.Limits.{limits}
 use Rattle.steps.specs.Steps.{padded, Held, NextIs}
@@ -122,7 +122,7 @@ module _ {s : DS.Strip} {w₀ : List ℕ} {long : ℕ} (h : HeldOn s w₀ long) 
           let v : nextOf s w l ≡ after (s .k) (s .n) (take long w₀) =
           arrived (s .k) (s .n) (g .two) (g .some) (take long w₀) _ (held-in h) i a b whole in
           let none : left (s .k) (s .n) (take long w₀) (nextOf s w l) ≡ 0 =
-          ap (left (s .k) (s .n) (take long w₀)) v ∙ passed-none (after (s .k) (s .n) (take long w₀)) (lyndonsUp (s .k) (s .n)) in
+          ap (left (s .k) (s .n) (take long w₀)) v ∙ steps (s .k) (s .n) (g .two) (g .some) .passed-none (after (s .k) (s .n) (take long w₀)) in
           let all : passed + 1 ≡ left (s .k) (s .n) (take long w₀) (take long w₀) = omega (arith, f, none) in
           record {
             word = next-buffer ∙ ap (padded (s .n)) v;

@@ -8,8 +8,8 @@ use Rattle.shape.specs.declared.Strip as DS
 use Rattle.shape.specs.Shapes.{Shaped}
 use Rattle.steps.specs.Steps.{padded}
 use Rattle.buffers.specs.Buffers.{over}
-use Rattle.theory.specs.Words.{pick, below, marksOk, isLyndon}
-use Rattle.theory.specs.Rings.{cursor, lyndonsUp, divides, passedBy}
+use Rattle.theory.specs.Words.{marksOk, isLyndon}
+use Rattle.theory.specs.Rings.{cursor, divides, passedTo}
 use Rattle.theory.specs.Strips.{nextWord}
 use Rattle.rings.specs.declared.Moved as DM
 
@@ -25,8 +25,7 @@ pub record HeldOn (s : DS.Strip) (w : List ℕ) (long : ℕ) : Type 0 where
 pub record MovedIs (s : DS.Strip) (before : List ℕ) (long : ℕ) (after : List ℕ) (r : DM.Moved) : Type 0 where
   pub word : after ≡ padded (s .n) (nextWord (cursor (s .k) (s .n) (take long before) 0))
   pub size : r .long ≡ length (nextWord (cursor (s .k) (s .n) (take long before) 0))
-  pub passed : let v = nextWord (cursor (s .k) (s .n) (take long before) 0) in
-      r .passed ≡ pick (below (take long before) v) (passedBy (take long before) v (lyndonsUp (s .k) (s .n))) 0
+  pub passed : r .passed ≡ passedTo (s .k) (s .n) (take long before) (nextWord (cursor (s .k) (s .n) (take long before) 0))
 
 -- a word over the start of a buffer, cut where the buffer ends
 abbrev pub clipped : List ℕ → List ℕ → List ℕ

@@ -1,21 +1,16 @@
--- Rotations: their letters, the least turn that gives the smallest one, and that it is below the shortest root.
-use mathlib.Core.Path.{_≡_, refl, sym, _∙_, ap, ap₂, subst}
+-- Rotations, letter by letter; the least turn, one turn after another.
+use mathlib.Core.Path.{_≡_, refl, sym, _∙_, ap}
 use mathlib.Core.Bool.{true, false}
-use mathlib.Core.List.{List, [], _∷_, _++_, append-assoc, append-nil}
+use mathlib.Core.List.{List}
 use mathlib.Core.Logic.{_⊎_, inl, inr}
-use Prim.Native.Nat.{ℕ, zero, suc, _+_, _-_, _≤_, _<_}
+use Prim.Native.Nat.{ℕ, suc, _+_, _-_, _≤_, _<_}
 use native.Mathlib.Omega.{arith}
 use native.Mathlib.Numerals.{add-one}
-use lib.ListN.{length, getD, take, drop, length-append, length-drop, List·getD-append}
-use lib.Seq.{length-take-le, getD-take, getD-drop, getD-append-add, take-append-le, drop-append-le, take-append-add, drop-append-add}
-use Rattle.theory.specs.Words.{pick, below, turned, leastFrom, smallest, turnFrom, leastTurn, repeated, root}
-use Rattle.theory.proofs.Base.{test, cmp, less, equal, more, split, upto, over}
-use Rattle.theory.proofs.Order.{Lt, Le, below-lt, not-below, le-refl, lt-le, lt-irrefl, lt-le-trans}
-use Rattle.theory.proofs.Powers.{repeated-snoc, Root, is-root, root-is}
+use lib.ListN.{length, getD, take, drop, length-drop, List·getD-append}
+use lib.Seq.{getD-take, getD-drop, getD-append-add}
+use Rattle.theory.specs.Words.{pick, below, turned, turnFrom}
+use Rattle.theory.proofs.Turns.{turned-length}
 use Rattle.lyndon.proofs.Scans.{below-less, below-more, below-on, below-end}
-
-pub turned-length : (i : ℕ) (w : List ℕ) → i ≤ length w → length (turned i w) ≡ length w
-turned-length i w h = omega (arith, length-append (drop i w) (take i w), length-drop i w, length-take-le i w h)
 
 -- the place x, in a word of n letters, of the letter j of its rotation by i
 pub record Place (n i j x : ℕ) : Type 0 where
@@ -69,98 +64,6 @@ pub turn-end : (w : List ℕ) (i b : ℕ) → length w ≤ i → turnFrom (lengt
 turn-end w i b h =
     let n : length w - i ≡ 0 = omega arith in
     rw n
-
--- it gives the smallest rotation
-turn-least : (l i : ℕ) (w : List ℕ) (b : ℕ) → turned (turnFrom l i w b) w ≡ leastFrom l i w (turned b w)
-turn-least zero i w b = refl
-turn-least (suc l) i w b = elim (test (below (turned i w) (turned b w))) [ inl t ↦ rw t (turn-least l (suc i) w i) | inr t ↦ rw t (turn-least l (suc i) w b) ]
-
-pub least-turn-smallest : (w : List ℕ) → turned (leastTurn w) w ≡ smallest w
-least-turn-smallest w = turn-least (length w - 1) 1 w 0 ∙ ap (leastFrom (length w - 1) 1 w) (append-nil w)
-
-turn-inside : (l i : ℕ) (w : List ℕ) (b : ℕ) → b < i → turnFrom l i w b < i + l
-turn-inside zero i w b h = omega arith
-turn-inside (suc l) i w b h = elim (test (below (turned i w) (turned b w))) [
-  | inl t ↦ rw t (omega (arith, turn-inside l (suc i) w i (omega arith)))
-  | inr t ↦ rw t (omega (arith, turn-inside l (suc i) w b (omega arith)))
-]
-
-pub least-turn-inside : (w : List ℕ) → 0 < length w → leastTurn w < length w
-least-turn-inside w h = omega (arith, turn-inside (length w - 1) 1 w 0 (omega arith))
-
-pub turn-fits : (w : List ℕ) → leastTurn w ≤ length w
-turn-fits [] = omega arith
-turn-fits (a ∷ w) = omega (arith, least-turn-inside (a ∷ w) (omega arith))
-
--- and is the first that does
-pub data Leads (w : List ℕ) (i b : ℕ) : Type 0 where
-  leads : ((j : ℕ) → j < i → Le (turned b w) (turned j w)) → ((j : ℕ) → j < b → Lt (turned b w) (turned j w)) → Leads w i b
-
-turn-first : (l i : ℕ) (w : List ℕ) (b : ℕ) → b < i → Leads w i b → Leads w (i + l) (turnFrom l i w b)
-turn-first zero i w b h (leads f g) = leads (λ j k. f j (omega arith)) g
-turn-first (suc l) i w b h r = elim (test (below (turned i w) (turned b w))) [ inl t ↦ rw t (on (turn-first l (suc i) w i (omega arith) (lower (below-lt (turned i w) (turned b w) t) r))) | inr t ↦ rw t (on (turn-first l (suc i) w b (omega arith) (stay (not-below t) r))) ]
-  where
-    on : {r : ℕ} → Leads w (suc i + l) r → Leads w (i + suc l) r
-    on (leads f g) = leads (λ j k. f j (omega arith)) g
-
-    lower : Lt (turned i w) (turned b w) → Leads w i b → Leads w (suc i) i
-    lower t (leads f g) = leads le (λ j k. lt-le-trans t (f j k))
-      where
-        le : (j : ℕ) → j < suc i → Le (turned i w) (turned j w)
-        le j k = elim (cmp j i) [
-          | less e ↦ lt-le (lt-le-trans t (f j e))
-          | equal e ↦ subst (λ r. Le (turned i w) (turned r w)) (sym e) (le-refl (turned i w))
-          | more e ↦ absurd (omega arith)
-        ]
-
-    stay : Le (turned b w) (turned i w) → Leads w i b → Leads w (suc i) b
-    stay t (leads f g) = leads le g
-      where
-        le : (j : ℕ) → j < suc i → Le (turned b w) (turned j w)
-        le j k = elim (cmp j i) [
-          | less e ↦ f j e
-          | equal e ↦ subst (λ r. Le (turned b w) (turned r w)) (sym e) t
-          | more e ↦ absurd (omega arith)
-        ]
-
-pub least-turn-first : (w : List ℕ) (j : ℕ) → j < leastTurn w → ¬ (turned j w ≡ smallest w)
-least-turn-first w j h e = at (turn-first (length w - 1) 1 w 0 (omega arith) (leads start (λ j k. absurd (omega arith))))
-  where
-    start : (j : ℕ) → j < 1 → Le (turned 0 w) (turned j w)
-    start j k =
-        let zeroth : 0 ≡ j = omega arith in
-        subst (λ r. Le (turned 0 w) (turned r w)) zeroth (le-refl (turned 0 w))
-
-    at : Leads w (1 + (length w - 1)) (leastTurn w) → ⊥
-    at (leads f g) = lt-irrefl (subst (λ r. Lt r (turned j w)) (least-turn-smallest w ∙ sym e) (g j h))
-
--- a turn by a root changes nothing
-pub turned-root : {d : ℕ} {w : List ℕ} (j : ℕ) → Root d w → 0 < length w → d + j ≤ length w → turned (d + j) w ≡ turned j w
-turned-root {d} {w} j (is-root zero t f n p) h l = absurd (omega (arith, ap length f))
-turned-root {d} {w} j (is-root (suc e) t f n p) h l =
-    let inside : j ≤ length (repeated e t) = omega (arith, ap length f, length-append t (repeated e t)) in
-    let back : w ≡ repeated e t ++ t = f ∙ sym (repeated-snoc e t) in
-    let one : turned (d + j) w ≡ drop j (repeated e t) ++ (t ++ take j (repeated e t)) =
-    ap₂ (λ r s. turned (r + j) s) (sym n) f ∙ ap₂ _++_ (drop-append-add t (repeated e t) j) (take-append-add t (repeated e t) j) in
-    let two : turned j w ≡ (drop j (repeated e t) ++ t) ++ take j (repeated e t) =
-    ap (turned j) back ∙ ap₂ _++_ (drop-append-le j (repeated e t) t inside) (take-append-le j (repeated e t) t inside) in
-    one ∙ sym (append-assoc (drop j (repeated e t)) t (take j (repeated e t))) ∙ sym two
-
-pub least-turn-root : (w : List ℕ) → 0 < length w → leastTurn w < root w
-least-turn-root w h = elim (split (root w) (leastTurn w)) [
-  | upto l ↦ absurd (again (root-is w h) l)
-  | over l ↦ l
-]
-  where
-    again : Root (root w) w → root w ≤ leastTurn w → ⊥
-    again r l =
-        let whole : root w + (leastTurn w - root w) ≡ leastTurn w = omega arith in
-        let q : turned (leastTurn w) w ≡ turned (leastTurn w - root w) w =
-        ap (λ s. turned s w) (sym whole) ∙ turned-root (leastTurn w - root w) r h (omega (arith, least-turn-inside w h)) in
-        least-turn-first w (leastTurn w - root w) (omega (arith, some r)) (sym q ∙ least-turn-smallest w)
-      where
-        some : {d : ℕ} → Root d w → 0 < d
-        some (is-root e t f n p) = p
 
 -- two rotations compared: their first j letters agree, and the next ones stand at x and y
 pub record Turning (w : List ℕ) (i b j x y : ℕ) : Type 0 where

@@ -11,11 +11,11 @@ use lib.ListN.{length, getD}
 use borrow.Author.Tests.{ltb-true, ltb-false, leb-true, lt-ltb}
 use Rattle.theory.specs.Words.{pick, below, upTo, isLyndon, marksOk}
 use Rattle.theory.specs.Lists.{In}
-use Rattle.theory.specs.Rings.{lyndonsUp, Allowed, ringWords, ring, modulo, letterOn, lettersOn, Cursor, cursor, goodOn, beforeW, positionOn, atFrom, firstAfter, passedBy, stepOn, readOn}
+use Rattle.theory.specs.Rings.{lyndonsUp, Allowed, ringWords, ring, modulo, letterOn, lettersOn, Cursor, cursor, goodOn, beforeW, positionOn, atFrom, firstAfter, passedBy, passedTo, stepOn, readOn}
 use Rattle.theory.specs.Strips.{divisorOf, stripWords, strip, placeIn, cursorAt, stepOf}
 use Rattle.theory.specs.Theorems.{Cursors-on, Cursors}
 use Rattle.theory.proofs.Base.{test, and-l, and-r, and-in}
-use Rattle.theory.proofs.Order.{below-lt, le-upTo, le-not-below}
+use Rattle.theory.proofs.Order.{below-lt, le-refl, le-upTo, le-not-below}
 use Rattle.theory.proofs.Listed.{ring-words, ring-ascend}
 use Rattle.theory.proofs.Reading.{modulo-small, modulo-full, letters-modulo}
 use Rattle.theory.proofs.Passed.{passed-bound}
@@ -31,7 +31,8 @@ Near ok k n =
 
 -- where a step of the cursor (k, n, w, q) leads
 data Led (ok : ℕ → Bool) (k n : ℕ) (w : List ℕ) (q : ℕ) : Type 0 where
-  led : (v : List ℕ) (r : ℕ) → stepOn ok (cursor k n w q) .mark ≡ getD w q 0 → stepOn ok (cursor k n w q) .passed ≤ n
+  led : (v : List ℕ) (r : ℕ) → stepOn ok (cursor k n w q) .mark ≡ getD w q 0 → stepOn ok (cursor k n w q) .passed ≡ passedTo k n w v
+      → passedTo k n w v ≤ n
       → stepOn ok (cursor k n w q) .cursor-is ≡ cursor k n v r → In v (ringWords ok k n) → r < length v
       → beforeW v (ringWords ok k n) + r ≡ modulo (suc (beforeW w (ringWords ok k n) + q)) (length (ring ok k n)) → Led ok k n w q
 
@@ -69,18 +70,19 @@ module _ (ok : ℕ → Bool) (k n : ℕ) (one : 1 ≤ n) (allowed : Allowed n ok
       inner : ltb (suc q) (length w) ≡ true → Led ok k n w q
       inner t =
           let b = ltb-true (suc q) (length w) t in
-          led w (suc q) (rw t) (rw t (omega arith)) (rw t) i b (small w (suc q) i b (omega arith))
+          let none : passedTo k n w w ≡ 0 = ap (λ x. pick x (passedBy w w (lyndonsUp k n)) 0) (le-not-below (le-refl w)) in
+          led w (suc q) (rw t) (rw t (sym none)) (omega (arith, none)) (rw t) i b (small w (suc q) i b (omega arith))
 
       outer : ltb (suc q) (length w) ≡ false → After w ws (beforeW w ws) (firstAfter w ws ws) → Led ok k n w q
       outer t (onward j l least e) =
           let b = in-some _ j in
           let full : suc q ≡ length w = omega (arith, ltb-false (suc q) (length w) t) in
-          led (firstAfter w ws ws) 0 (rw t) (rw t (pick-le _ _ n (λ g. near w _ i j g (λ y x z. le-upTo (least y x (below-lt w y z)))))) (rw t) j b
+          led (firstAfter w ws ws) 0 (rw t) (rw t) (pick-le _ _ n (λ g. near w _ i j g (λ y x z. le-upTo (least y x (below-lt w y z))))) (rw t) j b
           (small _ 0 j b (omega arith))
       outer t (around j l z e) =
           let full : suc q ≡ length w = omega (arith, ltb-false (suc q) (length w) t) in
           let end : suc (beforeW w ws + q) ≡ total = omega arith in
-          led (firstAfter w ws ws) 0 (rw t) (rw t (pick-le _ _ n (λ g. absurd (false≢true (sym (le-not-below l) ∙ g))))) (rw t) j (in-some _ j)
+          led (firstAfter w ws ws) 0 (rw t) (rw t) (pick-le _ _ n (λ g. absurd (false≢true (sym (le-not-below l) ∙ g)))) (rw t) j (in-some _ j)
           (add-zero _ ∙ z ∙ sym (modulo-full total) ∙ ap (λ x. modulo x total) (sym end))
 
   -- a fact about the ring's cursors, from those that are written out
@@ -97,7 +99,7 @@ module _ (ok : ℕ → Bool) (k n : ℕ) (one : 1 ≤ n) (allowed : Allowed n ok
       → readOn ok (cursor k n w q) c ≡ lettersOn (length (ring ok k n)) (ring ok k n) (beforeW w (ringWords ok k n) + q) c
   letters-read near zero w q i b = refl
   letters-read near (suc c) w q i b = elim (step-led near w q i b) [
-    | led v r m o f j d e ↦
+    | led v r m a o f j d e ↦
         let s = ring ok k n in
         ap₂ (λ a x. a ∷ x) (m ∙ letter-read w q i b)
         (ap (λ x. readOn ok x c) f ∙ letters-read near c v r j d ∙ ap (λ x. lettersOn (length s) s x c) e ∙ letters-modulo (length s) s _ c)
@@ -113,8 +115,8 @@ module _ (ok : ℕ → Bool) (k n : ℕ) (one : 1 ≤ n) (allowed : Allowed n ok
         within = own _ (λ w q g. let (i, b) = good-in w q g in word-inside ws up w q i b);
         one = own _ (λ w q g. let (i, b) = good-in w q g in word-at ws up k n w q i b);
         onward = own _ (λ w q g. let (i, b) = good-in w q g in elim (step-led near w q i b) [
-          | led v r m o f j d e ↦
-              (m ∙ letter-read w q i b, ap (goodOn ok) f ∙ in-good v r j d, ap (positionOn ok) f ∙ e, o)
+          | led v r m a o f j d e ↦
+              (m ∙ letter-read w q i b, ap (goodOn ok) f ∙ in-good v r j d, ap (positionOn ok) f ∙ e, a ∙ ap (λ x. passedTo k n w (x .word)) (sym f), omega (arith, a, o))
         ]);
         reads = λ p c h. elim (position-held ws up k n p h) [
           | holds w q i b e f ↦
@@ -142,12 +144,13 @@ cursors = record {
   within = λ c two one g. subst (λ m. placeIn c < m) (strip-long _ _ two one) (on _ _ two one .within c refl refl g);
   one = λ c two one g. on _ _ two one .one c refl refl g;
   onward = λ c two one g.
-      let (a, b, d, e) = on _ _ two one .onward c refl refl g in
+      let (a, b, d, e, f) = on _ _ two one .onward c refl refl g in
       let next = stepOf c .cursor-is in (
         a ∙ ap (λ m. letterOn m (strip (c .k) (c .n)) (placeIn c)) (strip-long _ _ two one),
         ap (λ m. goodOn (divisorOf m) next) (step-n (divisorOf (c .n)) c) ∙ b,
         ap (λ m. positionOn (divisorOf m) next) (step-n (divisorOf (c .n)) c) ∙ d ∙ ap (λ m. modulo (suc (placeIn c)) m) (strip-long _ _ two one),
         e,
+        f,
       );
   reads = λ k n p c two one h.
       on k n two one .reads p c (subst (λ m. p < m) (sym (strip-long k n two one)) h) ∙ ap (λ m. lettersOn m (strip k n) p c) (strip-long k n two one);

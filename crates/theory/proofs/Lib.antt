@@ -9,6 +9,7 @@ pub mod Letters
 pub mod Lyndon
 pub mod Powers
 pub mod Necklaces
+pub mod Turns
 pub mod AllWords
 pub mod UpWords
 pub mod Listed

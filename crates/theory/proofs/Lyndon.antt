@@ -2,6 +2,7 @@
 use mathlib.Core.Path.{_≡_, refl, sym, _∙_, ap, subst}
 use mathlib.Core.Bool.{true}
 use mathlib.Core.List.{List, [], _∷_, _++_, append-assoc, append-nil}
+use mathlib.Core.Logic.{_↔_}
 use Prim.Native.Nat.{ℕ, zero, suc, _+_, _-_, _≤_, _<_}
 use native.Mathlib.Omega.{arith}
 use native.Mathlib.Nat.{lt-of-le-of-lt}
@@ -43,6 +44,15 @@ from-out (suc l) i w h =
 
 pub lyndon-some : (w : List ℕ) → isLyndon w ≡ true → 0 < length w
 lyndon-some w h = leb-true 1 (length w) (and-l _ _ h)
+
+pub lyndon-turns : (w : List ℕ) → (isLyndon w ≡ true) ↔ ((1 ≤ length w) × ((r : ℕ) → 1 ≤ r → r < length w → below w (turned r w) ≡ true))
+lyndon-turns w = (into, out)
+  where
+    into : isLyndon w ≡ true → (1 ≤ length w) × ((r : ℕ) → 1 ≤ r → r < length w → below w (turned r w) ≡ true)
+    into h = (lyndon-some w h, λ r a b. lt-below (from-in (length w - 1) 1 w (and-r (leb 1 (length w)) _ h) r a (omega arith)))
+
+    out : (1 ≤ length w) × ((r : ℕ) → 1 ≤ r → r < length w → below w (turned r w) ≡ true) → isLyndon w ≡ true
+    out (h, f) = and-in (le-leb 1 (length w) h) (from-out (length w - 1) 1 w (λ j a b. below-lt w (turned j w) (f j a (omega arith))))
 
 pub lyndon-turned : (u v : List ℕ) → isLyndon (u ++ v) ≡ true → 0 < length u → 0 < length v → Lt (u ++ v) (v ++ u)
 lyndon-turned u v h a b =

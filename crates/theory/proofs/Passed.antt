@@ -1,8 +1,8 @@
 -- Words passed: a step passes one Lyndon word of length at most n, so from a ring's word to its next at most n are passed.
-use mathlib.Core.Path.{_≡_, refl, sym, _∙_, ap, subst}
-use mathlib.Core.Bool.{Bool, true, false, _&&_}
+use mathlib.Core.Path.{_≡_, _∙_, ap, subst}
+use mathlib.Core.Bool.{Bool, true}
 use mathlib.Core.List.{List, [], _∷_}
-use mathlib.Core.Logic.{_⊎_, inl, inr, _≢_}
+use mathlib.Core.Logic.{inl, inr, _≢_}
 use Prim.Native.Nat.{ℕ, zero, suc, _+_, _-_, _≤_, _<_}
 use native.Mathlib.Omega.{arith}
 use lib.ListN.{length}
@@ -11,37 +11,13 @@ use Rattle.theory.specs.Lists.{In}
 use Rattle.theory.specs.Rings.{lyndonsUp, ringWords, Allowed, passedBy}
 use Rattle.theory.specs.Steps.{nextLyndon}
 use Rattle.theory.specs.Theorems.{Steps}
-use Rattle.theory.proofs.Base.{test, and-in, less, equal, more, cmp}
-use Rattle.theory.proofs.Order.{Lt, Le, lt-below, below-lt, lt-trans, lt-le, le-refl, le-cases, le-trans, le-not-lt, not-below, le-not-below, upTo-le, lt-not-upTo}
+use Rattle.theory.proofs.Base.{less, equal, more, cmp}
+use Rattle.theory.proofs.Order.{Lt, Le, lt-below, below-lt, lt-trans, le-cases, le-not-lt, upTo-le}
 use Rattle.theory.proofs.Lyndon.{lyndon-some}
-use Rattle.theory.proofs.Listed.{lyndon-up-words, lyndon-up-ascend, ring-words}
-use Rattle.theory.proofs.Lists.{ascend-once}
-use Rattle.theory.proofs.Counts.{keep-one-more}
+use Rattle.theory.proofs.Listed.{lyndon-up-words, ring-words}
 use Rattle.theory.proofs.Tops.{one-less}
 use Rattle.theory.proofs.Next.{member-in, none-above}
 use Rattle.theory.proofs.Steps.{steps}
-
-pub passed-none : (v : List ℕ) (ws : List (List ℕ)) → passedBy v v ws ≡ 0
-passed-none v [] = refl
-passed-none v (w ∷ ws) = elim (test (below v w)) [
-  | inl t ↦ rw (t, lt-not-upTo (below-lt v w t)) (passed-none v ws)
-  | inr t ↦ rw t (passed-none v ws)
-]
-
--- a step passes the word that it leads to
-pub passed-step : {k n : ℕ} → Steps k n → (u v : List ℕ) → In u (lyndonsUp k n) → u ≢ (k - 1) ∷ [] → upTo (nextLyndon k n u) v ≡ true
-    → passedBy u v (lyndonsUp k n) ≡ suc (passedBy (nextLyndon k n u) v (lyndonsUp k n))
-passed-step {k} {n} s u v i h g =
-    keep-one-more (λ w. below u w && upTo w v) (λ w. below y w && upTo w v) (ascend-once (lyndonsUp k n) (lyndon-up-ascend k n)) (s .next-in u i h)
-    (and-in (s .next-larger u i h) g) (ap (λ b. b && upTo y v) (le-not-below (le-refl y)))
-    (λ w j q. ap (λ b. b && upTo w v) (same-side w j q (test (below u w))))
-  where
-    y : List ℕ
-    y = nextLyndon k n u
-
-    same-side : (w : List ℕ) → In w (lyndonsUp k n) → w ≢ y → (below u w ≡ true) ⊎ (below u w ≡ false) → below u w ≡ below y w
-    same-side w j q (inl t) = t ∙ elim (le-cases (upTo-le y w (s .next-least u w i j t))) [ inl r ↦ sym (lt-below r) | inr r ↦ absurd (q (sym r)) ]
-    same-side w j q (inr t) = t ∙ sym (le-not-below (le-trans (not-below t) (lt-le (below-lt u y (s .next-larger u i h)))))
 
 -- a word below another of the list is not the last letter
 pub not-top : (k n : ℕ) {u v : List ℕ} → 2 ≤ k → In v (lyndonsUp k n) → Lt u v → u ≢ (k - 1) ∷ []
@@ -57,7 +33,7 @@ on-step : {k n : ℕ} → 2 ≤ k → Steps k n → {x v : List ℕ} → In x (l
 on-step {k} {n} h s {x} {v} i j l =
     let top : x ≢ (k - 1) ∷ [] = not-top k n h j l in
     let near : upTo (nextLyndon k n x) v ≡ true = s .next-least x v i j (lt-below l) in
-    on (nextLyndon k n x) (s .next-in x i top) (below-lt x (nextLyndon k n x) (s .next-larger x i top)) (upTo-le (nextLyndon k n x) v near) (s .next-longer x i top) (passed-step s x v i top near)
+    on (nextLyndon k n x) (s .next-in x i top) (below-lt x (nextLyndon k n x) (s .next-larger x i top)) (upTo-le (nextLyndon k n x) v near) (s .next-longer x i top) (s .passed-step x v i top near)
 
 -- the ring's words are words of the list; those of length n, which is allowed, are the ring's
 pub ring-listed : (ok : ℕ → Bool) (k n : ℕ) {w : List ℕ} → In w (ringWords ok k n) → In w (lyndonsUp k n)
@@ -75,7 +51,7 @@ module _ (ok : ℕ → Bool) (k n : ℕ) (h : 2 ≤ k) (g : 1 ≤ n) (a : Allowe
   passed-from zero x f j p q = absurd (omega (arith, lyndon-up-words k n x .0 j .0))
   passed-from (suc fuel) x f j p q = elim (le-cases q) [
     | inl r ↦ elim (on-step h (steps k n h g) j (ring-listed ok k n i) r) [ on y c d b e m ↦ omega (arith, m, e (shorter r), passed-from fuel y (omega (arith, e (shorter r))) c (lt-trans p d) b) ]
-    | inr r ↦ omega (arith, ap (λ w. passedBy w v (lyndonsUp k n)) r ∙ passed-none v (lyndonsUp k n), lyndon-up-words k n x .0 j .0)
+    | inr r ↦ omega (arith, ap (λ w. passedBy w v (lyndonsUp k n)) r ∙ steps k n h g .passed-none v, lyndon-up-words k n x .0 j .0)
   ]
     where
       shorter : Lt x v → length x < n

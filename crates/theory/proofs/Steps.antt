@@ -1,6 +1,6 @@
 -- Periods of extensions, the step back to the Lyndon word before, and the record Steps (document 003, section 1.4.2).
 use mathlib.Core.Path.{_≡_, refl, sym, _∙_, ap, ap₂, subst, subst₂}
-use mathlib.Core.Bool.{true, false}
+use mathlib.Core.Bool.{true, false, _&&_}
 use mathlib.Core.List.{List, [], _∷_, _++_, append-assoc}
 use mathlib.Core.Logic.{_⊎_, inl, inr, _≢_}
 use Prim.Native.Nat.{ℕ, zero, suc, _+_, _-_, _≤_, _<_}
@@ -8,16 +8,19 @@ use native.Mathlib.Omega.{arith}
 use lib.ListN.{length, take, drop, replicate, length-append, take-append-drop}
 use lib.Seq.{take-append-seam, drop-append-seam, length-take-le}
 use borrow.Author.Tests.{lt-ltb}
-use Rattle.theory.specs.Words.{same}
+use Rattle.theory.specs.Words.{same, below, upTo}
 use Rattle.theory.specs.Lists.{In, here, there}
-use Rattle.theory.specs.Rings.{lyndonsUp}
+use Rattle.theory.specs.Rings.{lyndonsUp, passedBy}
 use Rattle.theory.specs.Steps.{extension, nextLyndon, lowered, periodFrom, period, previousLyndon}
 use Rattle.theory.specs.Theorems.{Steps}
 use Rattle.theory.specs.Prenecklaces.{Cut}
-use Rattle.theory.proofs.Base.{and-in, less, equal, more, cmp, levi, longer, shorter}
-use Rattle.theory.proofs.Order.{Lt, short, now, later, Le, Prefix, prefix, is-lt, is-eq, is-gt, tri, eq-same, ne-same, lt-below, below-lt, lt-irrefl, lt-asym, lt-le, le-refl, eq-le, le-cases, le-trans, le-not-lt, le-upTo, cut-append, cut-not-prefix}
+use Rattle.theory.proofs.Base.{test, and-in, less, equal, more, cmp, levi, longer, shorter}
+use Rattle.theory.proofs.Order.{Lt, short, now, later, Le, Prefix, prefix, is-lt, is-eq, is-gt, tri, eq-same, ne-same, lt-below, below-lt, lt-irrefl, lt-asym, lt-le, le-refl, eq-le, le-cases, le-trans, le-not-lt, not-below, le-not-below, lt-not-upTo, le-upTo, cut-append, cut-not-prefix}
 use Rattle.theory.proofs.Lyndon.{Lyndon, one-letter}
 use Rattle.theory.proofs.Powers.{Extends, behind, extends-long, extension-length, extension-extends}
+use Rattle.theory.proofs.Listed.{lyndon-up-ascend}
+use Rattle.theory.proofs.Lists.{ascend-once}
+use Rattle.theory.proofs.Counts.{keep-one-more}
 use Rattle.theory.proofs.Tops.{one-less, not-last}
 use Rattle.theory.proofs.Next.{Member, member-in, member-out, none-above, Step, step, step-of, step-size, next-member, next-above, next-nearest, next-long, top-next}
 
@@ -134,6 +137,32 @@ previous-of {z} {n} {y} g m h = elim (latest-of y (lyndonsUp (suc z) n) (0 ∷ [
         is : nextLyndon (suc z) n x ≡ y
         is = elim (le-cases (next-nearest w m p)) [ inl r ↦ absurd (le-not-lt (f (nextLyndon (suc z) n x) (member-out z n next) r) (next-above w top)) | inr r ↦ r ]
 
+-- words passed: none from a word to itself
+passed-none : (v : List ℕ) (ws : List (List ℕ)) → passedBy v v ws ≡ 0
+passed-none v [] = refl
+passed-none v (w ∷ ws) = elim (test (below v w)) [
+  | inl t ↦ rw (t, lt-not-upTo (below-lt v w t)) (passed-none v ws)
+  | inr t ↦ rw t (passed-none v ws)
+]
+
+-- a step passes the word that it leads to, since no other is between
+passed-step : {z n : ℕ} {u : List ℕ} (v : List ℕ) → Member z n u → u ≢ z ∷ [] → upTo (nextLyndon (suc z) n u) v ≡ true
+    → passedBy u v (lyndonsUp (suc z) n) ≡ suc (passedBy (nextLyndon (suc z) n u) v (lyndonsUp (suc z) n))
+passed-step {z} {n} {u} v m h g =
+    keep-one-more (λ w. below u w && upTo w v) (λ w. below y w && upTo w v) (ascend-once (lyndonsUp (suc z) n) (lyndon-up-ascend (suc z) n)) (member-out z n (next-member m h))
+    (and-in (lt-below above) g) (ap (λ b. b && upTo y v) (le-not-below (le-refl y)))
+    (λ w j q. ap (λ b. b && upTo w v) (same-side w j q (test (below u w))))
+  where
+    y : List ℕ
+    y = nextLyndon (suc z) n u
+
+    above : Lt u y
+    above = next-above m h
+
+    same-side : (w : List ℕ) → In w (lyndonsUp (suc z) n) → w ≢ y → (below u w ≡ true) ⊎ (below u w ≡ false) → below u w ≡ below y w
+    same-side w j q (inl t) = t ∙ elim (le-cases (next-nearest m (member-in z n j) (below-lt u w t))) [ inl r ↦ sym (lt-below r) | inr r ↦ absurd (q (sym r)) ]
+    same-side w j q (inr t) = t ∙ sym (le-not-below (le-trans (not-below t) (lt-le above)))
+
 pub steps : (k n : ℕ) → 2 ≤ k → 1 ≤ n → Steps k n
 steps zero n h g = absurd (omega arith)
 steps (suc z) n h g =
@@ -146,6 +175,8 @@ steps (suc z) n h g =
       previous-in = λ y i q. elim (previous-of g (member-in z n i) q) [ previous x m r e ↦ member-out z n (subst (Member z n) (sym (previous-is m r) ∙ ap (previousLyndon (suc z) n) e) m) ];
       previous-next = λ x i q. previous-is (member-in z n i) (not-last q);
       next-previous = λ y i q. elim (previous-of g (member-in z n i) q) [ previous x m r e ↦ ap (nextLyndon (suc z) n) (ap (previousLyndon (suc z) n) (sym e) ∙ previous-is m r) ∙ e ];
+      passed-none = λ v. passed-none v (lyndonsUp (suc z) n);
+      passed-step = λ u v i q g. passed-step v (member-in z n i) (not-last q) g;
     }
   where
     previous-is : {x : List ℕ} → Member z n x → x ≢ z ∷ [] → previousLyndon (suc z) n (nextLyndon (suc z) n x) ≡ x

@@ -3,6 +3,7 @@ use Rattle.theory.specs.Theorems.{Theorems}
 use Rattle.theory.proofs.Marked.{marked}
 use Rattle.theory.proofs.Listed.{listed}
 use Rattle.theory.proofs.Ranks.{undone}
+use Rattle.theory.proofs.Turns.{word-laws}
 use Rattle.theory.proofs.Laws.{lyndon-laws}
 use Rattle.theory.proofs.Steps.{steps}
 use Rattle.theory.proofs.Rings.{rings, one-place}
@@ -20,6 +21,7 @@ theorems =
       marked = marked;
       listed = listed;
       undone = undone;
+      word-laws = word-laws;
       lyndon-laws = lyndon-laws;
       steps = steps;
       rings = rings;

@@ -111,8 +111,12 @@ nextOn ok c = let ws = ringWords ok (c .k) (c .n) in firstAfter (c .word) ws ws
 abbrev pub passedBy : List ℕ → List ℕ → List (List ℕ) → ℕ
 passedBy u v ws = length (keep (λ w. below u w && upTo w v) ws)
 
--- a step: the letter that the cursor stood on, the Lyndon words of length at most n passed (0 inside a word and at the wrap),
--- the moved cursor
+-- words passed by a step from the held word u to v, held then: the Lyndon words of length at most n after u, up to and with v; none where v is
+-- not after u, which is inside a word and at the wrap
+abbrev pub passedTo : ℕ → ℕ → List ℕ → List ℕ → ℕ
+passedTo k n u v = pick (below u v) (passedBy u v (lyndonsUp k n)) 0
+
+-- a step: the letter that the cursor stood on, the words passed, the moved cursor
 pub record Stepped : Type 0 where
   pub mark : ℕ
   pub passed : ℕ
@@ -125,7 +129,7 @@ stepOn ok c =
     (ltb (suc (c .place)) (length (c .word)))
     (record { mark = m; passed = 0; cursor-is = cursor (c .k) (c .n) (c .word) (suc (c .place)) })
     (let v = nextOn ok c in
-    record { mark = m; passed = pick (below (c .word) v) (passedBy (c .word) v (lyndonsUp (c .k) (c .n))) 0; cursor-is = cursor (c .k) (c .n) v 0 })
+    record { mark = m; passed = passedTo (c .k) (c .n) (c .word) v; cursor-is = cursor (c .k) (c .n) v 0 })
 
 -- the letters that the next steps of a cursor give
 abbrev pub readOn : (ℕ → Bool) → Cursor → ℕ → List ℕ

@@ -7,13 +7,13 @@ use Prim.Native.Nat.{ℕ, suc, _+_, _-_, _*_, _^_, _≤_, _<_}
 use lib.IntN.{ℤ, pos, natAbs}
 use lib.Dec.{eqb, ltb, leb}
 use lib.ListN.{length, getD, take, drop, replicate}
-use Rattle.theory.specs.Words.{pick, same, below, upTo, turned, isLyndon, smallest, repeated, root, allWords, keep, lyndons, howMany, rank, wordOf, marksOk, powerTo}
+use Rattle.theory.specs.Words.{pick, same, below, upTo, turned, isLyndon, smallest, leastTurn, repeated, root, Primitive, allWords, keep, lyndons, howMany, rank, wordOf, marksOk, powerTo}
 use Rattle.theory.specs.Lists.{In, Ascending, Once}
 use Rattle.theory.specs.Sums.{cs, mobius, divisors, running, rankTerm, countTerm, By-sum}
 use Rattle.theory.specs.Floors.{isNecklace, necklaceUpTo, necklaceBelow, floorFrom}
 use Rattle.theory.specs.Automaton.{run, returning, pathsTo}
 use Rattle.theory.specs.Search.{leastWord}
-use Rattle.theory.specs.Rings.{upWords, lyndonsUp, divides, Allowed, ringWords, ring, modulo, letterOn, lettersOn, Cursor, goodOn, beforeW, positionOn, cursorOn, stepOn, readOn, windowOn, placeOn}
+use Rattle.theory.specs.Rings.{upWords, lyndonsUp, divides, Allowed, ringWords, ring, modulo, letterOn, lettersOn, Cursor, goodOn, beforeW, positionOn, cursorOn, passedBy, passedTo, stepOn, readOn, windowOn, placeOn}
 use Rattle.theory.specs.Steps.{extension, nextLyndon, previousLyndon, period}
 use Rattle.theory.specs.Strips.{admitted, stripWords, strip, markAt, marksFrom, window, placeOf, cursorOk, placeIn, cursorAt, stepOf}
 use Rattle.theory.specs.Plans.{planFault, sectionCount, shades, marks, sections, nthS, lookupFault, layingOf, distanceOf}
@@ -42,6 +42,26 @@ pub record Undone : Type 0 where
       → (length (wordOf k n i) ≡ n) × (marksOk k (wordOf k n i) ≡ true) × (isLyndon (wordOf k n i) ≡ true)
   pub of-word : (k : ℕ) (w : List ℕ) → marksOk k w ≡ true → isLyndon w ≡ true → wordOf k (length w) (rank k w) ≡ w
   pub rank-range : (k : ℕ) (w : List ℕ) → marksOk k w ≡ true → isLyndon w ≡ true → (1 ≤ rank k w) × (rank k w ≤ howMany k (length w))
+
+-- The turn to the smallest rotation.
+pub record Turns : Type 0 where
+  pub reaches : (w : List ℕ) → turned (leastTurn w) w ≡ smallest w
+  pub least : (w : List ℕ) (r : ℕ) → turned r w ≡ smallest w → leastTurn w ≤ r
+  pub none : (w : List ℕ) → (leastTurn w ≡ 0) ↔ (smallest w ≡ w)
+  pub within-root : (w : List ℕ) → 1 ≤ length w → leastTurn w < root w
+
+-- What the definitions that search for a rotation or a root mean, for every word (document 004, section 2).
+pub record Word-laws : Type 0 where
+  -- the smallest rotation is one, by the least turn, and is not above any
+  pub turns : Turns
+  pub smallest-least : (w : List ℕ) (r : ℕ) → upTo (smallest w) (turned r w) ≡ true
+  -- so many first letters, repeated, give the word, and no shorter word does
+  pub root-some : (w : List ℕ) → 1 ≤ length w → (1 ≤ root w) × (root w ≤ length w)
+  pub root-repeats : (w : List ℕ) → 1 ≤ length w → powerTo (length w) (take (root w) w) ≡ w
+  pub root-least : (w u : List ℕ) (e : ℕ) → 1 ≤ length w → w ≡ repeated e u → root w ≤ length u
+  -- the two definitions of a Lyndon word: smaller than each of its proper rotations; primitive, and its own smallest rotation
+  pub lyndon-turns : (w : List ℕ) → (isLyndon w ≡ true) ↔ ((1 ≤ length w) × ((r : ℕ) → 1 ≤ r → r < length w → below w (turned r w) ≡ true))
+  pub lyndon-primitive : (w : List ℕ) → (isLyndon w ≡ true) ↔ ((1 ≤ length w) × Primitive w × (smallest w ≡ w))
 
 -- w is u, repeated e times and rotated by r
 pub record Rotated (w u : List ℕ) (e r : ℕ) : Type 0 where
@@ -77,6 +97,10 @@ pub record Steps (k n : ℕ) : Type 0 where
   pub previous-in : (y : List ℕ) → In y (lyndonsUp k n) → y ≢ 0 ∷ [] → In (previousLyndon k n y) (lyndonsUp k n)
   pub previous-next : (x : List ℕ) → In x (lyndonsUp k n) → x ≢ (k - 1) ∷ [] → previousLyndon k n (nextLyndon k n x) ≡ x
   pub next-previous : (y : List ℕ) → In y (lyndonsUp k n) → y ≢ 0 ∷ [] → nextLyndon k n (previousLyndon k n y) ≡ y
+  -- words passed: none from a word to itself, and a step passes the word that it leads to
+  pub passed-none : (v : List ℕ) → passedBy v v (lyndonsUp k n) ≡ 0
+  pub passed-step : (u v : List ℕ) → In u (lyndonsUp k n) → u ≢ (k - 1) ∷ [] → upTo (nextLyndon k n u) v ≡ true
+      → passedBy u v (lyndonsUp k n) ≡ suc (passedBy (nextLyndon k n u) v (lyndonsUp k n))
 
 -- Fredricksen and Maiorana's theorem for a ring (document 003, Theorem 1.5.6; document 004, Theorem 23).
 pub record Ring (ok : ℕ → Bool) (k n : ℕ) : Type 0 where
@@ -107,6 +131,7 @@ pub record Cursors-on (ok : ℕ → Bool) (k n : ℕ) : Type 0 where
       → (stepOn ok c .mark ≡ letterOn (length (ring ok k n)) (ring ok k n) (positionOn ok c))
       × (goodOn ok (stepOn ok c .cursor-is) ≡ true)
       × (positionOn ok (stepOn ok c .cursor-is) ≡ modulo (suc (positionOn ok c)) (length (ring ok k n)))
+      × (stepOn ok c .passed ≡ passedTo k n (c .word) (stepOn ok c .cursor-is .word))
       × (stepOn ok c .passed ≤ n)
   pub reads : (p c : ℕ) → p < length (ring ok k n) → readOn ok (cursorOn ok k n p) c ≡ lettersOn (length (ring ok k n)) (ring ok k n) p c
 
@@ -127,6 +152,7 @@ pub record Cursors : Type 0 where
       → (stepOf c .mark ≡ markAt (c .k) (c .n) (placeIn c))
       × (cursorOk (stepOf c .cursor-is) ≡ true)
       × (placeIn (stepOf c .cursor-is) ≡ modulo (suc (placeIn c)) (c .k ^ c .n))
+      × (stepOf c .passed ≡ passedTo (c .k) (c .n) (c .word) (stepOf c .cursor-is .word))
       × (stepOf c .passed ≤ c .n)
   pub reads : (k n p c : ℕ) → 2 ≤ k → 1 ≤ n → p < k ^ n → readOn (λ d. divides d n) (cursorAt k n p) c ≡ marksFrom k n p c
 
@@ -213,6 +239,7 @@ pub record Theorems : Type 0 where
   pub marked : Marked
   pub listed : Listed
   pub undone : Undone
+  pub word-laws : Word-laws
   pub lyndon-laws : Lyndon-laws
   pub steps : (k n : ℕ) → 2 ≤ k → 1 ≤ n → Steps k n
   pub rings : (ok : ℕ → Bool) (k n : ℕ) → 2 ≤ k → 1 ≤ n → Allowed n ok → Ring ok k n

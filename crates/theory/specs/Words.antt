@@ -1,8 +1,9 @@
 -- Words of letters, dictionary order, Lyndon words, ranks (document 004, sections 1 and 2).
 -- A letter is the paper's `mark`; rotated is the paper's `turned`.
+use mathlib.Core.Path.{_≡_}
 use mathlib.Core.Bool.{Bool, true, false, _&&_, _||_}
 use mathlib.Core.List.{List, [], _∷_, _++_}
-use Prim.Native.Nat.{ℕ, zero, suc, _-_, _/_, _%_}
+use Prim.Native.Nat.{ℕ, zero, suc, _-_, _/_, _%_, _≤_}
 use lib.Dec.{eqb, ltb, leb}
 use lib.ListN.{length, getD, take, drop}
 
@@ -86,6 +87,10 @@ rootFrom (suc l) d w = elim (isRoot d w) [ true ↦ d | false ↦ rootFrom l (su
 
 abbrev pub root : List ℕ → ℕ
 root w = rootFrom (length w) 1 w
+
+-- the power of no other word (document 004, section 2)
+abbrev pub Primitive : List ℕ → Type 0
+Primitive w = (u : List ℕ) (e : ℕ) → 1 ≤ e → w ≡ repeated e u → u ≡ w
 
 -- all words of a length, in order
 abbrev pub withFirst : ℕ → List (List ℕ) → List (List ℕ)

@@ -5,7 +5,7 @@ use borrow.Author.Needs.{needs}
 use Rattle.theory.specs.Words.{turned, smallest, leastTurn}
 use Rattle.theory.proofs.Necklaces.{smallest-length}
 use Rattle.buffers.specs.Buffers.{over}
-use Rattle.rotations.proofs.Turns.{least-turn-smallest, turn-fits}
+use Rattle.theory.proofs.Turns.{least-turn-smallest, turn-fits}
 use Rattle.calls.specs.Refusals.{theWordFault}
 use Rattle.calls.proofs.Checks.{passed}
 use Rattle.calls.proofs.Answers.{into-refused-by, into-small, into-answer}
