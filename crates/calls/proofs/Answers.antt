@@ -10,7 +10,7 @@ use Rattle.buffers.specs.Buffers.{putBe, over}
 use Rattle.calls.specs.declared.Value as DV
 use Rattle.calls.specs.declared.Checked.{Checked}
 use Rattle.calls.specs.declared.Checked.the-variants.{Refused}
-use Rattle.calls.specs.Checks.{checkedBy}
+use Rattle.calls.specs.Checks.{Checks}
 use Rattle.calls.specs.Answers.{Into, Number, ValueIs}
 use Rattle.calls.proofs.Checks.{refused-by}
 
@@ -21,7 +21,7 @@ value-refused {f} {x} v h z e = rw (h, ne-eqb x 0 z) e
 pub value-answer : {f x : ℕ} {v : ℕ} {r : DV.Value} → f ≡ 0 → x ≡ v → (r .number ≡ 0) × (r .value ≡ x) → ValueIs f v r
 value-answer h g e = rw h (e .0, e .1 ∙ g)
 
-pub value-refused-by : (f k n v : ℕ) {c : Checked} {x : ℕ} {r : DV.Value} → c ≡ checkedBy f k n → c ≡ Refused x → (r .number ≡ x) × (r .value ≡ 0) → ValueIs f v r
+pub value-refused-by : (f k n v : ℕ) {c : Checked} {x : ℕ} {r : DV.Value} → Checks f k n c → c ≡ Refused x → (r .number ≡ x) × (r .value ≡ 0) → ValueIs f v r
 value-refused-by f k n v e g h = let (is, some) = refused-by f k n e g in value-refused v is some h
 
 -- bytes into a tray
@@ -29,7 +29,7 @@ pub into-refused : {f r : ℕ} (b t : List ℕ) {t′ : List ℕ} → f ≡ r �
 into-refused {r = zero} b t h z g = absurd (z refl)
 into-refused {r = suc r} b t h z g = rw (h, ne-eqb (suc r) 0 z) (refl, g)
 
-pub into-refused-by : (f k n : ℕ) (b t : List ℕ) {c : Checked} {x : ℕ} {t′ : List ℕ} → c ≡ checkedBy f k n → c ≡ Refused x → t′ ≡ t → Into f (pick (eqb f 0) b []) t t′ x
+pub into-refused-by : (f k n : ℕ) (b t : List ℕ) {c : Checked} {x : ℕ} {t′ : List ℕ} → Checks f k n c → c ≡ Refused x → t′ ≡ t → Into f (pick (eqb f 0) b []) t t′ x
 into-refused-by f k n b t e g h = let (is, some) = refused-by f k n e g in into-refused b t is some h
 
 pub into-small : {f r : ℕ} (b t : List ℕ) {t′ : List ℕ} → f ≡ 0 → length t < length b → r ≡ 6 → t′ ≡ t → Into f (pick (eqb f 0) b []) t t′ r
@@ -39,7 +39,7 @@ pub into-answer : {f r : ℕ} (b t : List ℕ) {t′ : List ℕ} → f ≡ 0 →
 into-answer b t h l e g = rw (h, le-ltb (length t) (length b) l) (e, g)
 
 -- a number's 8 bytes into a tray
-pub number-refused-by : (f k n v : ℕ) (t : List ℕ) {c : Checked} {x : ℕ} {t′ : List ℕ} → c ≡ checkedBy f k n → c ≡ Refused x → t′ ≡ t → Number f v t t′ x
+pub number-refused-by : (f k n v : ℕ) (t : List ℕ) {c : Checked} {x : ℕ} {t′ : List ℕ} → Checks f k n c → c ≡ Refused x → t′ ≡ t → Number f v t t′ x
 number-refused-by f k n v t e g h = into-refused-by f k n (putBe 8 v) t e g h
 
 pub number-small : {f r : ℕ} (v : ℕ) (t : List ℕ) {t′ : List ℕ} → f ≡ 0 → length t < 8 → r ≡ 6 → t′ ≡ t → Number f v t t′ r

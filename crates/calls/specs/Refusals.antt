@@ -1,17 +1,13 @@
 -- The numbers that a call gives back, and their order: 7, 1, 8, 10, 2, 3, 4, 5, 9, 6. Each call takes the first that applies.
 -- The faults of a plan and of a lookup (7, 8, 9) stand in theory's Plans, of which theorems speak; that of a cursor (10) in cursors, of whose bytes it
 -- speaks; 6 is part of the form of an answer (Answers).
-use mathlib.Core.Bool.{_||_, not}
+use mathlib.Core.Bool.{_||_}
 use mathlib.Core.List.{List}
 use Prim.Native.Nat.{ℕ, _^_}
 use lib.Dec.{eqb, ltb, leb}
 use Rattle.theory.specs.Words.{firstOf, when, howMany}
-use Rattle.theory.specs.Strips.{admitted}
+use Rattle.theory.specs.Strips.{stripFault}
 use Rattle.theory.specs.Plans.{wordFault}
-
--- 1: no such strip
-abbrev pub stripFault : ℕ → ℕ → ℕ
-stripFault k n = when (not (admitted k n)) 1
 
 -- 1, then 2: the word does not have n marks, then 3: a mark is k or more
 abbrev pub theWordFault : ℕ → ℕ → List ℕ → ℕ

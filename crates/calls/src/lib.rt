@@ -1,7 +1,7 @@
 // What all calls share: the numbers of refusals, arguments that are checked before a call goes on, and numbers as answers.
-ghost use mathlib.Core.Path.{_≡_};
-ghost use Rattle.calls.specs.Refusals.{stripFault, theWordFault, placeFault};
-ghost use Rattle.calls.specs.Checks.{checkedBy};
+ghost use Rattle.theory.specs.Strips.{stripFault};
+ghost use Rattle.calls.specs.Refusals.{theWordFault, placeFault};
+ghost use Rattle.calls.specs.Checks.{Checks};
 ghost use Rattle.calls.specs.Answers.{Number};
 use shape::Made;
 use shape::Strip;
@@ -25,7 +25,7 @@ const NUMBER: usize = 8;
 
 // Is there such a strip?
 pub fn check_strip(k: u64, n: u64) -> Checked
-    ensures { λ r. ⌜ r ≡ checkedBy (stripFault k n) k n ⌝ }
+    ensures { λ r. ⌜ Checks (stripFault k n) k n r ⌝ }
 {
     match Strip::new(k, n) {
         Made::Fine(strip) => Checked::Strip(strip),
@@ -35,7 +35,7 @@ pub fn check_strip(k: u64, n: u64) -> Checked
 
 // And is it a word of n marks on it?
 pub fn check_word(k: u64, n: u64, word: &[u8]) -> Checked
-    ensures { λ r. ⌜ r ≡ checkedBy (theWordFault k n (now (word .entry))) k n ⌝ }
+    ensures { λ r. ⌜ Checks (theWordFault k n (now (word .entry))) k n r ⌝ }
 {
     let Made::Fine(strip) = Strip::new(k, n) else {
         return Checked::Refused(refusals::NO_SUCH_STRIP);
@@ -51,7 +51,7 @@ pub fn check_word(k: u64, n: u64, word: &[u8]) -> Checked
 
 // And is it a place on it?
 pub fn check_place(k: u64, n: u64, place: u64) -> Checked
-    ensures { λ r. ⌜ r ≡ checkedBy (placeFault k n place) k n ⌝ }
+    ensures { λ r. ⌜ Checks (placeFault k n place) k n r ⌝ }
 {
     let Made::Fine(strip) = Strip::new(k, n) else {
         return Checked::Refused(refusals::NO_SUCH_STRIP);

@@ -7,7 +7,7 @@ use native.Mathlib.Omega.{arith}
 use lib.ListN.{replicate}
 use borrow.Author.Tests.{ne-eqb, le-leb, not-false}
 use Rattle.theory.specs.Words.{when}
-use Rattle.theory.specs.Strips.{cursorOk, cursorAt, stepOf}
+use Rattle.theory.specs.Strips.{cursorOk, cursorAt, stepOf, stripFault}
 use Rattle.theory.proofs.Base.{and-in}
 use Rattle.access.specs.declared.Spot as DP
 use Rattle.access.specs.Holders.{PutAt}
@@ -16,8 +16,8 @@ use Rattle.shape.specs.Shapes.{Shaped}
 use Rattle.shape.proofs.Limits.{limits}
 use Rattle.calls.specs.declared.Checked.{Checked}
 use Rattle.calls.specs.declared.Checked.the-variants.{Strip, Refused}
-use Rattle.calls.specs.Refusals.{stripFault, placeFault}
-use Rattle.calls.specs.Checks.{checkedBy}
+use Rattle.calls.specs.Refusals.{placeFault}
+use Rattle.calls.specs.Checks.{Checks}
 use Rattle.calls.proofs.Checks.{first-none, when-none, passed, strip-refused, strip-then-refused, strip-then-passed, StripIs, strip-is}
 use Rattle.cursors.specs.declared.Cursor as DC
 use Rattle.cursors.specs.declared.Started as DS
@@ -26,22 +26,22 @@ use Rattle.cursors.specs.Cursors.{allZero, cursorIn, tidy, empty, Is, St
 use Rattle.cursors.proofs.Held.{zeros, zeros-drop}
 
 -- the check of a cursor, by the check m of its k and n and by the test of its fields
-module _ (c : DC.Cursor) {m : Checked} (e : m ≡ checkedBy (stripFault (c .k) (c .n)) (c .k) (c .n)) where
+module _ (c : DC.Cursor) {m : Checked} (e : Checks (stripFault (c .k) (c .n)) (c .k) (c .n) m) where
   abbrev after : ℕ
   after = when (not (tidy c && cursorOk (cursorIn c))) 10
 
-  pub no-strip : {x : ℕ} → m ≡ Refused x → Refused x ≡ checkedBy (cursorFault c) (c .k) (c .n)
+  pub no-strip : {x : ℕ} → m ≡ Refused x → Checks (cursorFault c) (c .k) (c .n) (Refused x)
   no-strip f = strip-refused (c .k) (c .n) after e f
 
   module _ {s : DH.Strip} (f : m ≡ Strip s) where
-    pub lost-it : false ≡ (tidy c && cursorOk (cursorIn c)) → Refused 10 ≡ checkedBy (cursorFault c) (c .k) (c .n)
+    pub lost-it : false ≡ (tidy c && cursorOk (cursorIn c)) → Checks (cursorFault c) (c .k) (c .n) (Refused 10)
     lost-it t = strip-then-refused (c .k) (c .n) after e f (ap (λ b. when (not b) 10) (sym t)) (λ z. omega arith)
 
-    pub good-it : true ≡ (tidy c && cursorOk (cursorIn c)) → Strip s ≡ checkedBy (cursorFault c) (c .k) (c .n)
+    pub good-it : true ≡ (tidy c && cursorOk (cursorIn c)) → Checks (cursorFault c) (c .k) (c .n) (Strip s)
     good-it t = strip-then-passed (c .k) (c .n) after e f (ap (λ b. when (not b) 10) (sym t))
 
 -- a cursor that passed it
-pub good-on : (c : DC.Cursor) {m : Checked} {s : DH.Strip} → m ≡ checkedBy (cursorFault c) (c .k) (c .n) → m ≡ Strip s → GoodOn s c
+pub good-on : (c : DC.Cursor) {m : Checked} {s : DH.Strip} → Checks (cursorFault c) (c .k) (c .n) m → m ≡ Strip s → GoodOn s c
 good-on c e f =
     let on = strip-is (cursorFault c) (c .k) (c .n) (λ z. first-none (stripFault (c .k) (c .n)) _ z .0) e f in
     let none = first-none (stripFault (c .k) (c .n)) _ (passed (cursorFault c) (c .k) (c .n) e f .0) .1 in

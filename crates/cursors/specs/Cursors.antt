@@ -7,10 +7,10 @@ use lib.Dec.{eqb, leb}
 use lib.ListN.{take, drop}
 use Rattle.theory.specs.Words.{pick, pickT, firstOf, when}
 use Rattle.theory.specs.Rings.{Cursor, Stepped, cursor}
-use Rattle.theory.specs.Strips.{cursorOk, cursorAt, placeIn, stepOf}
+use Rattle.theory.specs.Strips.{cursorOk, cursorAt, placeIn, stepOf, stripFault}
 use Rattle.shape.specs.declared.Strip as DH
 use Rattle.shape.specs.Shapes.{Shaped}
-use Rattle.calls.specs.Refusals.{stripFault, placeFault}
+use Rattle.calls.specs.Refusals.{placeFault}
 use Rattle.calls.specs.Answers.{ValueIs}
 use Rattle.calls.specs.declared.Value as DV
 use Rattle.cursors.specs.declared.Cursor as DC

@@ -4,7 +4,7 @@ ghost use mathlib.Core.Bool.{true, _&&_};
 ghost use Prim.Native.Nat.{_<_};
 ghost use Rattle.theory.specs.Strips.{cursorOk, cursorAt, placeIn, stepOf};
 ghost use Rattle.shape.specs.Shapes.{Shaped};
-ghost use Rattle.calls.specs.Checks.{checkedBy};
+ghost use Rattle.calls.specs.Checks.{Checks};
 ghost use Rattle.cursors.specs.Cursors.{cursorIn, tidy, empty, Is, cursorFault, StartSays, WhereSays, GoodOn, Goes, StepSays};
 use calls::Checked;
 use calls::Value;
@@ -50,7 +50,7 @@ fn is_good(c: Cursor) -> bool
 
 // The cursor's strip, or its fault.
 fn check(c: Cursor) -> Checked
-    ensures { λ r. ⌜ r ≡ checkedBy (cursorFault c) (c .k) (c .n) ⌝ }
+    ensures { λ r. ⌜ Checks (cursorFault c) (c .k) (c .n) r ⌝ }
 {
     match calls::check_strip(c.k as u64, c.n as u64) {
         Checked::Refused(number) => Checked::Refused(number),

@@ -2,10 +2,10 @@
 use mathlib.Core.Path.{_≡_, refl}
 use mathlib.Core.Bool.{true}
 use Prim.Native.Nat.{ℕ, _^_, _<_}
-use Rattle.theory.specs.Strips.{admitted}
+use Rattle.theory.specs.Strips.{admitted, stripFault}
 use Rattle.shape.specs.declared.Strip as DS
 use Rattle.shape.proofs.Limits.{Limits, limits}
-use Rattle.calls.specs.Refusals.{stripFault, placeFault}
+use Rattle.calls.specs.Refusals.{placeFault}
 use Rattle.calls.proofs.Checks.{place-fine}
 
 pub admitted-limits : (k n : ℕ) → admitted k n ≡ true → Limits k n

@@ -10,14 +10,13 @@ use lib.Dec.{ltb}
 use lib.ListN.{length}
 use Rattle.theory.specs.Words.{firstOf, when}
 use Rattle.theory.specs.Rings.{Cursor, modulo}
-use Rattle.theory.specs.Strips.{admitted, strip, markAt, marksFrom, cursorOk, cursorAt, placeIn, stepOf, stripWords}
+use Rattle.theory.specs.Strips.{admitted, strip, markAt, marksFrom, cursorOk, cursorAt, placeIn, stepOf, stripWords, stripFault}
 use Rattle.theory.proofs.Base.{test, and-in}
 use Rattle.theory.proofs.Cursors.{cursors}
 use Rattle.theory.proofs.Reading.{modulo-small, modulo-lt, letters-modulo}
 use Rattle.shape.proofs.Limits.{Limits}
 use Rattle.rings.proofs.Printing.{modulo-plus}
 use Rattle.access.proofs.Holding.{at-kept}
-use Rattle.calls.specs.Refusals.{stripFault}
 use Rattle.calls.specs.declared.Value as DV
 use Rattle.cursors.specs.declared.Cursor as DC
 use Rattle.cursors.specs.declared.Started as DS

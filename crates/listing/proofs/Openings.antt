@@ -20,7 +20,7 @@ use Rattle.calls.specs.declared.Checked.{Checked}
 use Rattle.calls.specs.declared.Checked.the-variants.{Refused}
 use Rattle.calls.proofs.Checks.{refused-by}
 use Rattle.plans.specs.declared.Section as DX
-use Rattle.plans.specs.Opened.{openedOf, Accepted}
+use Rattle.plans.specs.Opened.{Opens, Accepted}
 use Rattle.listing.specs.declared.Line as DL
 use Rattle.listing.specs.Lines.{LineIs, sectionOf}
 
@@ -60,7 +60,7 @@ module _ (s : List ℕ) {x : DS.Strip} (plan : Accepted s x) where
       sym (ap (λ c. pick c (sectionLine (shades s) (marks s) i (nthS (sections s) i)) []) (and-false (eqb (planFault s) 0) _ (le-ltb i (sectionCount s) b)))
 
 -- a refused plan
-module _ (s : List ℕ) {c : Checked} {f : ℕ} (e : c ≡ openedOf s) (h : c ≡ Refused f) where
+module _ (s : List ℕ) {c : Checked} {f : ℕ} (e : Opens s c) (h : c ≡ Refused f) where
   refused : (eqb (planFault s) 0 ≡ false) × (planFault s ≡ f)
   refused = let (is, some) = refused-by (planFault s) (shades s) (marks s) e h in (ne-eqb (planFault s) 0 (λ z. some (sym is ∙ z)), is)
 

@@ -4,7 +4,7 @@ ghost use mathlib.Core.List.{[]};
 ghost use Prim.Native.Nat.{_<_};
 ghost use Rattle.shape.specs.Shapes.{Shaped};
 ghost use Rattle.listing.specs.Listings.{stripLine, sectionLine, refusedLine, lineCount, lineOf};
-ghost use Rattle.plans.specs.Opened.{openedOf, Accepted};
+ghost use Rattle.plans.specs.Opened.{Opens, Accepted};
 ghost use Rattle.listing.specs.Lines.{LineIs, sectionOf};
 use calls::Checked;
 use plans::Section;
@@ -84,7 +84,7 @@ fn accepted_line(plan: &[u8], s: Strip, i: u64) -> Line
 
 // How many lines there are, of a plan that was opened.
 pub fn count(plan: &[u8], opened: Checked) -> u64
-    requires { ⌜ opened ≡ openedOf (now plan) ⌝ }
+    requires { ⌜ Opens (now plan) opened ⌝ }
     ensures { λ r. ⌜ r ≡ lineCount (now (plan .entry)) ⌝ }
 {
     match opened {
@@ -95,7 +95,7 @@ pub fn count(plan: &[u8], opened: Checked) -> u64
 
 // Line i of a plan that was opened; no bytes if there is none.
 pub fn line_at(plan: &[u8], opened: Checked, i: u64) -> Line
-    requires { ⌜ opened ≡ openedOf (now plan) ⌝ }
+    requires { ⌜ Opens (now plan) opened ⌝ }
     ensures { λ r. ⌜ LineIs (lineOf (now (plan .entry)) i) r ⌝ }
 {
     match opened {

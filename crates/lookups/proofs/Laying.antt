@@ -6,7 +6,7 @@ use native.Mathlib.Omega.{arith}
 use lib.Dec.{eqb}
 use borrow.Author.Tests.{ne-eqb}
 use Rattle.theory.specs.Words.{firstOf, when}
-use Rattle.theory.specs.Strips.{placeOf}
+use Rattle.theory.specs.Strips.{placeOf, stripFault}
 use Rattle.theory.specs.Plans.{shades, marks, sections, sectionCount, nthS, planFault, wordFault, layingFrom, layingOf, distanceOf, lookupFault}
 use Rattle.theory.proofs.Laying.{laid-only}
 use Rattle.theory.proofs.Rings.{one-place}
@@ -15,19 +15,19 @@ use Rattle.shape.specs.Shapes.{WordOn}
 use Rattle.shape.proofs.Limits.{limits}
 use Rattle.calls.specs.declared.Checked.{Checked}
 use Rattle.calls.specs.declared.Checked.the-variants.{Strip, Refused}
-use Rattle.calls.specs.Refusals.{stripFault, theWordFault}
-use Rattle.calls.specs.Checks.{checkedBy}
+use Rattle.calls.specs.Refusals.{theWordFault}
+use Rattle.calls.specs.Checks.{Checks}
 use Rattle.calls.proofs.Checks.{first-some, first-none, refused-by, passed, word-fine}
-use Rattle.plans.specs.Opened.{openedOf, Accepted}
+use Rattle.plans.specs.Opened.{Opens, Accepted}
 
 -- a refused plan
-pub plan-fault : (s w : List ℕ) {c : Checked} {f : ℕ} → c ≡ openedOf s → c ≡ Refused f → (lookupFault s w ≡ f) × ¬ (f ≡ 0)
+pub plan-fault : (s w : List ℕ) {c : Checked} {f : ℕ} → Opens s c → c ≡ Refused f → (lookupFault s w ≡ f) × ¬ (f ≡ 0)
 plan-fault s w e g =
     let (is, some) = refused-by (planFault s) (shades s) (marks s) e g in
     (first-some (planFault s) _ (λ z. some (sym is ∙ z)) ∙ is, some)
 
 -- on an accepted plan, with the strip x that it is laid on; c is the check of the word there
-module _ {s : List ℕ} {x : DS.Strip} (a : Accepted s x) (w : List ℕ) {c : Checked} (e : c ≡ checkedBy (theWordFault (x .k) (x .n) w) (x .k) (x .n)) where
+module _ {s : List ℕ} {x : DS.Strip} (a : Accepted s x) (w : List ℕ) {c : Checked} (e : Checks (theWordFault (x .k) (x .n) w) (x .k) (x .n) c) where
   -- the strip has no fault, so what is left is the word's
   word-is : theWordFault (x .k) (x .n) w ≡ wordFault (shades s) (marks s) w
   word-is =

@@ -8,9 +8,9 @@ use Rattle.shape.specs.declared.Strip as DS
 use Rattle.calls.specs.declared.Checked.{Checked}
 use Rattle.calls.specs.declared.Checked.the-variants.{Strip}
 use Rattle.calls.proofs.Checks.{passed, strip-is}
-use Rattle.plans.specs.Opened.{openedOf, Accepted}
+use Rattle.plans.specs.Opened.{Opens, Accepted}
 
-pub accepted : (s : List ℕ) {c : Checked} {x : DS.Strip} → c ≡ openedOf s → c ≡ Strip x → Accepted s x
+pub accepted : (s : List ℕ) {c : Checked} {x : DS.Strip} → Opens s c → c ≡ Strip x → Accepted s x
 accepted s e f =
     let on = strip-is (planFault s) (shades s) (marks s) (λ z. rw (plan-good s z .1)) e f in
     record { faultless = passed (planFault s) (shades s) (marks s) e f .0; shaped = on .shaped; letters = on .letters; marked = on .marks }

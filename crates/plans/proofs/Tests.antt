@@ -14,12 +14,12 @@ use Rattle.theory.proofs.Laying.{plan-good}
 use Rattle.shape.specs.declared.Strip as DS
 use Rattle.shape.specs.declared.Made.{Made}
 use Rattle.shape.specs.declared.Made.the-variants.{Fine, Refused as None}
-use Rattle.shape.specs.Shapes.{madeOf}
+use Rattle.shape.specs.Shapes.{Makes}
 use Rattle.shape.proofs.Making.{made-none}
 use Rattle.calls.specs.declared.Checked.the-variants.{Strip, Refused}
 use Rattle.calls.specs.Checks.{stripOf}
 use Rattle.calls.proofs.Checks.{or-false, refused-with, passed-with, made-admits, made-is}
-use Rattle.plans.specs.Opened.{openedOf}
+use Rattle.plans.specs.Opened.{Opens}
 use Rattle.plans.proofs.Pairs.{pairs}
 
 -- the count c and the length
@@ -59,12 +59,12 @@ pairs-sections s w =
 
 -- what opening answers: the plan's strip or its fault
 module _ (s : List ℕ) where
-  pub opened-torn : torn s ≡ true → Refused 7 ≡ openedOf s
+  pub opened-torn : torn s ≡ true → Opens s (Refused 7)
   opened-torn t = refused-with (planFault s) (shades s) (marks s) (rw t) (λ z. omega arith)
 
   -- m is the answer of the strip's constructor
-  module _ {m : Made} (good : torn s ≡ false) (made : m ≡ madeOf (shades s) (marks s)) where
-    pub opened-none : m ≡ None → Refused 1 ≡ openedOf s
+  module _ {m : Made} (good : torn s ≡ false) (made : Makes (shades s) (marks s) m) where
+    pub opened-none : m ≡ None → Opens s (Refused 1)
     opened-none f = refused-with (planFault s) (shades s) (marks s) (rw (good, made-none (shades s) (marks s) made f)) (λ z. omega arith)
 
     -- x is the strip that it made
@@ -80,8 +80,8 @@ module _ (s : List ℕ) where
           → straightFrom (marks s) (shades s ^ marks s) 0 (sections s) ≡ b
       straight-sections e = ap (λ y. straightFrom (marks s) (y .size) 0 (sections s)) same ∙ sym (e ∙ ap (straightFrom (marks s) (x .size) 0) (pairs-sections s (whole s good)))
 
-      pub opened-strip : straightFrom (marks s) (shades s ^ marks s) 0 (sections s) ≡ true → Strip x ≡ openedOf s
+      pub opened-strip : straightFrom (marks s) (shades s ^ marks s) 0 (sections s) ≡ true → Opens s (Strip x)
       opened-strip h = passed-with (planFault s) (shades s) (marks s) (rw (good, admit, h)) same
 
-      pub opened-crooked : straightFrom (marks s) (shades s ^ marks s) 0 (sections s) ≡ false → Refused 8 ≡ openedOf s
+      pub opened-crooked : straightFrom (marks s) (shades s ^ marks s) 0 (sections s) ≡ false → Opens s (Refused 8)
       opened-crooked h = refused-with (planFault s) (shades s) (marks s) (rw (good, admit, h)) (λ z. omega arith)

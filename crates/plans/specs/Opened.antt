@@ -6,10 +6,10 @@ use Rattle.theory.specs.Plans.{shades, marks, planFault}
 use Rattle.shape.specs.declared.Strip as DS
 use Rattle.shape.specs.Shapes.{Shaped}
 use Rattle.calls.specs.declared.Checked.{Checked}
-use Rattle.calls.specs.Checks.{checkedBy}
+use Rattle.calls.specs.Checks.{Checks}
 
-abbrev pub openedOf : List ℕ → Checked
-openedOf s = checkedBy (planFault s) (shades s) (marks s)
+abbrev pub Opens : List ℕ → Checked → Type 0
+Opens s r = Checks (planFault s) (shades s) (marks s) r
 
 -- an accepted plan: no fault, and the strip of its k and n
 pub record Accepted (s : List ℕ) (x : DS.Strip) : Type 0 where

@@ -3,7 +3,7 @@ ghost use mathlib.Core.Path.{_≡_};
 ghost use Prim.Native.Nat.{_/_, _^_, _≤_, _<_};
 ghost use lib.ListN.{length};
 ghost use Rattle.theory.specs.Plans.{beFrom, torn, straightFrom, sectionsFrom, sections, sectionCount, planFault, layingFrom, marks, nthS};
-ghost use Rattle.plans.specs.Opened.{openedOf};
+ghost use Rattle.plans.specs.Opened.{Opens};
 use calls::Checked;
 use calls::refusals;
 use shape::Made;
@@ -72,7 +72,7 @@ fn is_straight(n: u64, top: u64, end: u64, pairs: &[u8]) -> bool
 
 // The strip of an accepted plan.
 pub fn open(plan: &[u8]) -> Checked
-    ensures { λ r. ⌜ r ≡ openedOf (now (plan .entry)) ⌝ }
+    ensures { λ r. ⌜ Opens (now (plan .entry)) r ⌝ }
 {
     if is_torn(plan) {
         return Checked::Refused(refusals::TORN_PLAN);

@@ -6,7 +6,7 @@ use Prim.Native.Nat.{ℕ, _^_}
 use lib.Dec.{leb}
 use lib.ListN.{length}
 use Rattle.theory.specs.Words.{marksOk}
-use Rattle.theory.specs.Strips.{admitted}
+use Rattle.theory.specs.Strips.{admitted, stripFault}
 use Rattle.shape.specs.declared.Strip as DS
 use Rattle.shape.specs.declared.Power.{Power}
 use Rattle.shape.specs.declared.Power.the-variants.{Is, Large}
@@ -28,6 +28,16 @@ pickMade false a b = b
 -- the strip of k and n, if it is admitted
 abbrev pub madeOf : ℕ → ℕ → Made
 madeOf k n = pickMade (admitted k n) (Fine (record { k = k; n = n; size = k ^ n })) Refused
+
+-- the paper's number for each case of the constructor's answer
+abbrev pub numberOf : Made → ℕ
+numberOf (Fine s) = 0
+numberOf Refused = 1
+
+-- what the constructor promises
+pub record Makes (k n : ℕ) (r : Made) : Type 0 where
+  pub number : numberOf r ≡ stripFault k n
+  pub is : r ≡ madeOf k n
 
 -- a strip as its constructor makes it
 pub record Shaped (s : DS.Strip) : Type 0 where

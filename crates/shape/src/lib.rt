@@ -1,6 +1,6 @@
 // The shape of a strip: its letters k, its window length n, its k^n positions.
 ghost use mathlib.Core.Path.{_≡_};
-ghost use Rattle.shape.specs.Shapes.{powerOf, madeOf};
+ghost use Rattle.shape.specs.Shapes.{powerOf, Makes};
 
 pub enum Power {
     Is(u64),
@@ -61,7 +61,7 @@ impl Strip {
 
     // The strip of k and n, if it is admitted.
     pub fn new(k: u64, n: u64) -> Made
-        ensures { λ r. ⌜ r ≡ madeOf k n ⌝ }
+        ensures { λ r. ⌜ Makes k n r ⌝ }
     {
         if k < 2 {
             return Made::Refused;

@@ -1,13 +1,12 @@
 // The program `stripwalk`: a plan from standard input, its listing to standard output.
-ghost use mathlib.Core.Path.{_≡_};
-ghost use Rattle.plans.specs.Opened.{openedOf};
+ghost use Rattle.plans.specs.Opened.{Opens};
 use calls::Checked;
 use libc::STDIN_FILENO;
 use libc::STDOUT_FILENO;
 
 // One line of a plan that was opened.
 fn print(plan: &[u8], opened: Checked, i: u64)
-    requires { ⌜ opened ≡ openedOf (now plan) ⌝ }
+    requires { ⌜ Opens (now plan) opened ⌝ }
 {
     let line = listing::line_at(plan, opened, i);
     let bytes = line.bytes;

@@ -1,14 +1,19 @@
 -- Strips, windows, cursors. The strip is the lexicographically smallest de Bruijn sequence (document 004, section 1): the ring of
 -- all lengths that divide n. A mark is a letter of the strip, a place one of its positions; a window is n letters.
-use mathlib.Core.Bool.{Bool, _&&_}
+use mathlib.Core.Bool.{Bool, _&&_, not}
 use mathlib.Core.List.{List}
 use Prim.Native.Nat.{ℕ, _^_}
 use lib.Dec.{leb}
+use Rattle.theory.specs.Words.{when}
 use Rattle.theory.specs.Rings.{divides, ringWords, ring, letterOn, lettersOn, findOn, Cursor, Stepped, goodOn, positionOn, cursorOn, nextOn, stepOn}
 
 -- admitted: k from 2 to 36, n from 1 to 60, k^n at most 2^60
 abbrev pub admitted : ℕ → ℕ → Bool
 admitted k n = leb 2 k && (leb k 36 && (leb 1 n && (leb n 60 && leb (k ^ n) (2 ^ 60))))
+
+-- the refusal 1: no such strip
+abbrev pub stripFault : ℕ → ℕ → ℕ
+stripFault k n = when (not (admitted k n)) 1
 
 abbrev pub divisorOf : ℕ → ℕ → Bool
 divisorOf n d = divides d n

@@ -11,8 +11,9 @@ use Rattle.theory.proofs.Ranks.{undone}
 use Rattle.shape.specs.declared.Strip as DS
 use Rattle.calls.specs.declared.Checked.{Checked}
 use Rattle.calls.specs.declared.Checked.the-variants.{Strip}
-use Rattle.calls.specs.Refusals.{stripFault, indexFault}
-use Rattle.calls.specs.Checks.{checkedBy}
+use Rattle.theory.specs.Strips.{stripFault}
+use Rattle.calls.specs.Refusals.{indexFault}
+use Rattle.calls.specs.Checks.{Checks}
 use Rattle.calls.proofs.Checks.{first-none, when-none, or-false, passed, StripIs, strip-is}
 
 module _ (k n i : ℕ) where
@@ -29,7 +30,7 @@ module _ (k n i : ℕ) where
   index-long a b = undone .index-word k n i a b .0
 
   -- the check of an index, passed
-  pub index-checked : {c : Checked} {s : DS.Strip} → c ≡ checkedBy (indexFault k n i) k n → c ≡ Strip s → StripIs k n s × (1 ≤ i) × (i ≤ howMany k n)
+  pub index-checked : {c : Checked} {s : DS.Strip} → Checks (indexFault k n i) k n c → c ≡ Strip s → StripIs k n s × (1 ≤ i) × (i ≤ howMany k n)
   index-checked e g =
       let on = strip-is (indexFault k n i) k n (λ z. first-none (stripFault k n) _ z .0) e g in
       let (some, few) = or-false (eqb i 0) _ (when-none _ 5 (λ z. omega arith) (first-none (stripFault k n) _ (passed (indexFault k n i) k n e g .0) .1)) in

@@ -4,7 +4,8 @@ use Prim.Native.Nat.{ℕ}
 use lib.Dec.{eqb}
 use Rattle.theory.specs.Words.{pick, isLyndon, smallest, root, howMany, rank, wordOf}
 use Rattle.calls.specs.declared.Value as DV
-use Rattle.calls.specs.Refusals.{stripFault, theWordFault, indexFault}
+use Rattle.theory.specs.Strips.{stripFault}
+use Rattle.calls.specs.Refusals.{theWordFault, indexFault}
 use Rattle.calls.specs.Answers.{Into, Number, ValueIs}
 
 abbrev pub LyndonSays : ℕ → ℕ → List ℕ → DV.Value → Type 0

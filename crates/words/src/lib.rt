@@ -1,8 +1,7 @@
 // Calls on words: is it a Lyndon word, its smallest rotation, its shortest root; how many Lyndon words there are, the rank of a word, the
 // word of an index. A faulty argument gets its number from the table of refusals, and every tray is then as it was.
-ghost use mathlib.Core.Path.{_≡_};
 ghost use Rattle.calls.specs.Refusals.{indexFault};
-ghost use Rattle.calls.specs.Checks.{checkedBy};
+ghost use Rattle.calls.specs.Checks.{Checks};
 ghost use Rattle.words.specs.Says.{LyndonSays, RotationSays, RootSays, ManySays, RankSays, WordSays};
 use calls::Checked;
 use calls::Value;
@@ -85,7 +84,7 @@ pub fn rank_of(k: u64, n: u64, word: &[u8], tray: &mut [u8]) -> u8
 
 // Has a Lyndon word that index?
 fn check_index(k: u64, n: u64, index: u64) -> Checked
-    ensures { λ r. ⌜ r ≡ checkedBy (indexFault k n index) k n ⌝ }
+    ensures { λ r. ⌜ Checks (indexFault k n index) k n r ⌝ }
 {
     match calls::check_strip(k, n) {
         Checked::Refused(number) => Checked::Refused(number),

@@ -1,7 +1,7 @@
 -- `check_strip` answers the strip that the constructor makes, or the refusal 1.
 use native.Mathlib.Omega.{arith}
 use borrow.Author.Needs.{needs}
-use Rattle.calls.specs.Refusals.{stripFault}
+use Rattle.theory.specs.Strips.{stripFault}
 use Rattle.calls.proofs.Checks.{refused-with, passed-with, none-made, made-passes, made-is}
 use Rattle.calls.proofs.check_strip.Statement.{statement}
 use Rattle.calls.proofs.check_strip.Tie as tie

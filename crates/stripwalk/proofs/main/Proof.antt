@@ -1,14 +1,13 @@
 -- `stripwalk`: each line once.
-use mathlib.Core.Path.{_≡_}
 use Prim.Native.Nat.{_-_, _≤_}
 use native.Mathlib.Omega.{arith}
 use borrow.Author.Needs.{needs}
-use Rattle.plans.specs.Opened.{openedOf}
+use Rattle.plans.specs.Opened.{Opens}
 use Rattle.stripwalk.proofs.main.Statement.{statement}
 use Rattle.stripwalk.proofs.main.Tie as tie
 
 abbrev Inv-loop : tie.InvT-loop
-Inv-loop long plan opened count i₀ i = (i ≤ count) × (opened ≡ openedOf plan)
+Inv-loop long plan opened count i₀ i = (i ≤ count) × Opens plan opened
 
 abbrev μ-loop : tie.MeasureT-loop
 μ-loop long plan opened count i₀ i = count - i

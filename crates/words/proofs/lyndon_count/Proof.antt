@@ -2,7 +2,7 @@
 use mathlib.Core.Path.{refl, _∙_, ap₂}
 use borrow.Author.Needs.{needs}
 use Rattle.theory.specs.Words.{howMany}
-use Rattle.calls.specs.Refusals.{stripFault}
+use Rattle.theory.specs.Strips.{stripFault}
 use Rattle.calls.proofs.Checks.{passed, strip-checked}
 use Rattle.calls.proofs.Answers.{value-refused-by, value-answer}
 use Rattle.words.proofs.lyndon_count.Statement.{statement}
