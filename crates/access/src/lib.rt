@@ -2,6 +2,8 @@
 ghost use mathlib.Core.Path.{_≡_};
 ghost use Prim.Native.Nat.{_≤_, _<_};
 ghost use lib.ListN.{length, take};
+ghost use Rattle.theory.specs.Lists.{Scratch};
+ghost use Rattle.theory.specs.Steps.{extension};
 ghost use Rattle.theory.specs.Rings.{cursor};
 ghost use Rattle.rings.specs.Moves.{HeldOn};
 ghost use Rattle.theory.specs.Strips.{markAt, marksFrom, placeIn};
@@ -16,7 +18,7 @@ pub struct Spot {
     pub at: usize,
 }
 
-// The word is put over the start of a buffer of n bytes, repeated to its end.
+// The word is put over the start of a buffer of n bytes; what stands behind it there is not promised.
 fn holder(s: Strip, p: u64, v: &mut [u8]) -> Spot
     requires { ⌜ Shaped s × (p < s .size) × (length (now v) ≡ s .n) ⌝ }
     ensures { λ r. ⌜ HoldsAt s p (now (v .exit)) r ⌝ }
@@ -32,10 +34,10 @@ fn holder(s: Strip, p: u64, v: &mut [u8]) -> Spot
     }
 }
 
-// The word that holds a place of the strip, over the start of a buffer; `room` is used up.
+// The word that holds a place of the strip, over the start of a buffer; `room` is scratch.
 pub fn hold(s: Strip, p: u64, room: &mut [u8], out: &mut [u8]) -> Spot
     requires { ⌜ Shaped s × (p < s .size) × (length (now room) ≡ s .n) × (60 ≤ length (now out)) ⌝ }
-    ensures { λ r. ⌜ PutAt s p (now (out .entry)) (now (out .exit)) r ⌝ }
+    ensures { λ r. ⌜ PutAt s p (now (out .entry)) (now (out .exit)) r × Scratch (now (room .entry)) (now (room .exit)) ⌝ }
 {
     let spot = holder(s, p, room);
     let long = spot.long;
@@ -69,7 +71,7 @@ pub fn letters(s: Strip, p: u64, out: &mut [u8])
 // The position of letter `at` of the word in the first `long` letters. The word is repeated to the buffer's end.
 pub fn position(s: Strip, v: &mut [u8], long: usize, at: usize) -> u64
     requires { ⌜ HeldOn s (now v) long × (at < long) ⌝ }
-    ensures { λ r. ⌜ r ≡ placeIn (cursor (s .k) (s .n) (take long (now (v .entry))) at) ⌝ }
+    ensures { λ r. ⌜ (r ≡ placeIn (cursor (s .k) (s .n) (take long (now (v .entry))) at)) × (now (v .exit) ≡ extension (length (now (v .entry))) (take long (now (v .entry)))) ⌝ }
 {
     steps::extend(v, long);
     let mut t = [0u64; automaton::CELLS];

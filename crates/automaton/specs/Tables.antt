@@ -21,13 +21,13 @@ pub record Counted (k : ℕ) (w : List ℕ) : Type 0 where
   pub short : length w ≤ 60
   pub range : k ^ length w ≤ 2 ^ 60
 
--- the first row, length 0: of the states up to n only state 0 is home
+-- the first row, length 0: of the states up to n only state 0 is home; any numbers in the other cells
 pub record Started (n : ℕ) (t : List ℕ) : Type 0 where
   pub size : length t ≡ cells
   pub home : getD t 0 0 ≡ 1
   pub away : (s : ℕ) → 1 ≤ s → s ≤ n → getD t s 0 ≡ 0
 
--- the entry of length l and state s is the number of words of length l that lead from state s home
+-- the entry of length l and state s is the number of words of length l that lead from state s home; any numbers in the other cells
 pub record Filled (k : ℕ) (w t : List ℕ) : Type 0 where
   pub size : length t ≡ cells
   pub entry : (s l : ℕ) → s + l ≤ length w → getD t (l * 61 + s) 0 ≡ returning k w s l
@@ -37,7 +37,7 @@ abbrev pub diagonalOf : List ℕ → ℕ → ℕ → ℕ
 diagonalOf t d zero = 0
 diagonalOf t d (suc q) = getD t ((d - q) * 61 + q) 0 + diagonalOf t d q
 
--- at each divisor of the word's length the size of CS of so many letters; nowhere more than a power of k
+-- at each divisor of the word's length the size of CS of so many letters; elsewhere any number, but nowhere more than a power of k
 pub record Sized (k : ℕ) (w t : List ℕ) : Type 0 where
   pub size : length t ≡ 61
   pub entry : (d : ℕ) → divides d (length w) ≡ true → getD t d 0 ≡ cs k (take d w)

@@ -1,9 +1,10 @@
-// Path counts of document 004's automaton in one table, and the sizes of CS that they give. The table is lent by the caller, who may lend
-// the same one again: what it held before does not count.
+// Path counts of document 004's automaton in one table, and the sizes of CS that they give. The table is lent by the caller as scratch: what it
+// held before does not count, and what it holds then is not promised, so the same one may be lent again.
 ghost use mathlib.Core.Path.{_≡_};
 ghost use Prim.Native.Nat.{_^_, _≤_, _<_};
 ghost use lib.ListN.{length};
 ghost use Rattle.theory.specs.Sums.{cs};
+ghost use Rattle.theory.specs.Lists.{Scratch};
 ghost use Rattle.theory.specs.Prenecklaces.{Prenecklace};
 ghost use Rattle.automaton.specs.Tables.{cells, Counted, Started, Filled, diagonalOf, Sized};
 
@@ -63,7 +64,7 @@ fn diagonal(t: &[u64], d: usize) -> u64
 // The size of CS(w). `top` is k^n.
 pub fn whole(k: u64, w: &[u8], top: u64, t: &mut [u64]) -> u64
     requires { ⌜ Counted k (now w) × Prenecklace (now w) × (top ≡ k ^ length (now w)) × (length (now t) ≡ cells) ⌝ }
-    ensures { λ r. ⌜ r ≡ cs k (now (w .entry)) ⌝ }
+    ensures { λ r. ⌜ (r ≡ cs k (now (w .entry))) × Scratch (now (t .entry)) (now (t .exit)) ⌝ }
 {
     fill(k, w, t);
     top - diagonal(t, w.len())
@@ -72,7 +73,7 @@ pub fn whole(k: u64, w: &[u8], top: u64, t: &mut [u64]) -> u64
 // The sizes of CS of the first d letters, for every divisor d of the length, from one table.
 pub fn sizes(k: u64, w: &[u8], t: &mut [u64]) -> [u64; 61]
     requires { ⌜ Counted k (now w) × Prenecklace (now w) × (length (now t) ≡ cells) ⌝ }
-    ensures { λ r. ⌜ Sized k (now (w .entry)) r ⌝ }
+    ensures { λ r. ⌜ Sized k (now (w .entry)) r × Scratch (now (t .entry)) (now (t .exit)) ⌝ }
 {
     fill(k, w, t);
     let n = w.len();

@@ -12,6 +12,7 @@ pub record Summable (k n : ℕ) (sizes : List ℕ) : Type 0 where
   pub size : length sizes ≡ 61
   pub small : (d : ℕ) → getD sizes d 0 ≤ k ^ d
 
+-- the powers of k up to k^n; behind them any numbers, but none more than a power of k
 pub record Powers (k n : ℕ) (t : List ℕ) : Type 0 where
   pub size : length t ≡ 61
   pub entry : (d : ℕ) → d ≤ n → getD t d 0 ≡ k ^ d

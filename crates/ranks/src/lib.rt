@@ -2,15 +2,16 @@
 ghost use mathlib.Core.Path.{_≡_};
 ghost use lib.ListN.{length};
 ghost use Rattle.theory.specs.Words.{rank, howMany};
+ghost use Rattle.theory.specs.Lists.{Scratch};
 ghost use Rattle.theory.specs.Prenecklaces.{Prenecklace};
 ghost use Rattle.automaton.specs.Tables.{cells};
 ghost use Rattle.shape.specs.Shapes.{Shaped, WordOn};
 use shape::Strip;
 
-// The rank of a prenecklace: document 004's sum, by one table, which is lent.
+// The rank of a prenecklace: document 004's sum, by one table, which is lent as scratch.
 pub fn of_prenecklace(s: Strip, w: &[u8], t: &mut [u64]) -> u64
     requires { ⌜ WordOn s (now w) × Prenecklace (now w) × (length (now t) ≡ cells) ⌝ }
-    ensures { λ r. ⌜ r ≡ rank (s .k) (now (w .entry)) ⌝ }
+    ensures { λ r. ⌜ (r ≡ rank (s .k) (now (w .entry))) × Scratch (now (t .entry)) (now (t .exit)) ⌝ }
 {
     let k = s.k;
     let n = s.n;

@@ -2,6 +2,7 @@
 ghost use mathlib.Core.Path.{_≡_};
 ghost use Prim.Native.Nat.{_<_};
 ghost use lib.ListN.{length, take};
+ghost use Rattle.theory.specs.Lists.{Scratch};
 ghost use Rattle.theory.specs.Rings.{cursor};
 ghost use Rattle.theory.specs.Strips.{cursorOk, placeIn, marksFrom};
 ghost use Rattle.rings.specs.Moves.{HeldOn, MovedIs, clipped};
@@ -63,10 +64,10 @@ fn put_word(word: &[u8], out: &mut [u8]) -> usize
     c
 }
 
-// The strip's letters from letter `at` of the word in the first `long` letters on, over the whole buffer. The word is used up.
+// The strip's letters from letter `at` of the word in the first `long` letters on, over the whole buffer. The word's buffer is used up, as scratch.
 pub fn write_from(s: Strip, w: &mut [u8], long: usize, at: usize, out: &mut [u8])
     requires { ⌜ HeldOn s (now w) long × (at < long) ⌝ }
-    ensures { λ _. ⌜ now (out .exit) ≡ marksFrom (s .k) (s .n) (placeIn (cursor (s .k) (s .n) (take long (now (w .entry))) at)) (length (now (out .entry))) ⌝ }
+    ensures { λ _. ⌜ (now (out .exit) ≡ marksFrom (s .k) (s .n) (placeIn (cursor (s .k) (s .n) (take long (now (w .entry))) at)) (length (now (out .entry)))) × Scratch (now (w .entry)) (now (w .exit)) ⌝ }
 {
     let mut l = long;
     let mut from = at;

@@ -15,7 +15,7 @@ pub enum Goal {
     Position(u64),
 }
 
-// Is w at or past the word searched for? One table.
+// Is w at or past the word searched for? By one table, as scratch.
 fn reaches(s: Strip, goal: Goal, w: &[u8], t: &mut [u64]) -> bool
     requires { ⌜ WordOn s (now w) × Prenecklace (now w) × Within s goal × (length (now t) ≡ cells) ⌝ }
     ensures { λ r. ⌜ r ≡ upTo (goalWord (s .k) (s .n) goal) (now (w .entry)) ⌝ }

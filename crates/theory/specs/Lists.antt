@@ -1,8 +1,9 @@
--- Members of a list; lists without repeats; lists of words in dictionary order, each word once.
+-- Members of a list; lists without repeats; lists of words in dictionary order, each word once; lists to work in.
 use mathlib.Core.Path.{_≡_}
 use mathlib.Core.Bool.{true}
 use mathlib.Core.List.{List, [], _∷_}
 use Prim.Native.Nat.{ℕ}
+use lib.ListN.{length}
 use Rattle.theory.specs.Words.{below}
 
 pub data In {A : Type 0} (x : A) : List A → Type 0 where
@@ -17,3 +18,7 @@ Ascending (w ∷ ws) = ((v : List ℕ) → In v ws → below w v ≡ true) × As
 abbrev pub Once : {A : Type 0} → List A → Type 0
 Once [] = Unit {0}
 Once (x ∷ xs) = (¬ In x xs) × Once xs
+
+-- scratch: a buffer that is lent to be worked in. Its length stays; any numbers may stand in it then
+pub record Scratch (before after : List ℕ) : Type 0 where
+  pub size : length after ≡ length before

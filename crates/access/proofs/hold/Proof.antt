@@ -30,7 +30,7 @@ same-length-2 : tie.Need-same-length-2
 same-length-2 c = search needs
 
 returns : tie.Need-returns
-returns c = put-at (c .before .before .before .before .before .before .before .holder .ensures) (c .before .before .copy .ensures)
+returns c = (put-at (c .before .before .before .before .before .before .before .holder .ensures) (c .before .before .copy .ensures), record { size = same-length c })
 
 pub hold-spec : {M : Type 1} → statement M
 hold-spec = tie.close (tie.spec holder-requires slice-reshare-prefix-copy slice-aggregate-copy copy-requires same-length same-length-2 returns)

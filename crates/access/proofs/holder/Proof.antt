@@ -32,7 +32,7 @@ sub-at : tie.Need-sub-at
 sub-at c =
     let f = c .before .before .before .before .before .before .before .before .before .before .before in
     let fits = holder-fits (f .args .p) (f .pre .0) (f .pre .1) (c .before .before .before .before .before .before .before .before .find .ensures) in
-    omega (arith, fits, c .shortest-root .ensures, c .before .before .before .whole .ensures)
+    omega (arith, fits, c .shortest-root .ensures, c .before .before .before .whole .ensures .0)
 
 same-length : tie.Need-same-length
 same-length c = search needs
@@ -40,7 +40,7 @@ same-length c = search needs
 returns : tie.Need-returns
 returns c =
     let f = c .before .before .before .before .before .before .before .before .before .before .before in
-    holder-is (f .args .p) (f .pre .0) (f .pre .1) (c .before .before .before .before .before .before .before .before .find .ensures) (c .shortest-root .ensures) (ap₂ (λ x y. f .args .p + x - y) (c .shortest-root .ensures) (c .before .before .before .whole .ensures))
+    holder-is (f .args .p) (f .pre .0) (f .pre .1) (c .before .before .before .before .before .before .before .before .find .ensures) (c .shortest-root .ensures) (ap₂ (λ x y. f .args .p + x - y) (c .shortest-root .ensures) (c .before .before .before .whole .ensures .0))
 
 pub holder-spec : {M : Type 1} → statement M
 holder-spec = tie.close (tie.spec find-requires slice-aggregate-whole whole-requires shortest-root-requires add-at sub-at same-length returns)

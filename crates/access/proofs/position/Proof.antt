@@ -21,7 +21,7 @@ whole-requires c κs =
     (counted, pre, top, refl)
 
 sub-result : tie.Need-sub-result
-sub-result c = let f = c .before .before .before .before .before .before .before .before .before in omega (arith, ends-at (f .pre .0) (c .before .before .before .before .before .before .extend .ensures) (c .before .whole .ensures))
+sub-result c = let f = c .before .before .before .before .before .before .before .before .before in omega (arith, ends-at (f .pre .0) (c .before .before .before .before .before .before .extend .ensures) (c .before .whole .ensures .0))
 
 add-result : tie.Need-add-result
 add-result c = search needs
@@ -33,7 +33,8 @@ returns : tie.Need-returns
 returns c =
     let f = c .before .before .before .before .before .before .before .before .before in
     let a = f .args in
-    omega (arith, ends-at (f .pre .0) (c .before .before .before .before .before .before .extend .ensures) (c .before .whole .ensures))
+    let extended = c .before .before .before .before .before .before .extend .ensures in
+    (omega (arith, ends-at (f .pre .0) extended (c .before .whole .ensures .0)), extended)
 
 pub position-spec : {M : Type 1} → statement M
 position-spec = tie.close (tie.spec extend-requires slice-aggregate-whole whole-requires sub-result add-result same-length returns)

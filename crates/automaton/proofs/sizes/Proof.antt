@@ -79,7 +79,7 @@ same-length c = search needs
 returns : tie.Need-returns Inv-loop μ-loop
 returns c =
     let a = c .before .before .before .before .before .before .before .before in
-    ended (a .args .k) (a .args .w .now) (a .pre .0) (length (a .args .w .now)) (c .before .loop .out) _ _ (c .before .loop .inv) (omega arith)
+    (ended (a .args .k) (a .args .w .now) (a .pre .0) (length (a .args .w .now)) (c .before .loop .out) _ _ (c .before .loop .inv) (omega arith), record { size = same-length c })
 
 pub sizes-spec : {M : Type 1} → statement M
 sizes-spec =

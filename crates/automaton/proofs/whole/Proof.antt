@@ -29,7 +29,8 @@ same-length c = search needs
 returns : tie.Need-returns
 returns c =
     let a = c .before .before .before .before .before .before .before .before in
-    whole-is (a .args .k) (a .args .w .now) (c .before .before .before .before .fill .last .1 .1 .0) (a .args .top) (c .diagonal .result) (size (c .before .before .before .before)) (c .diagonal .ensures)
+    let filled = c .before .before .before .before in
+    (whole-is (a .args .k) (a .args .w .now) (filled .fill .last .1 .1 .0) (a .args .top) (c .diagonal .result) (size filled) (c .diagonal .ensures), record { size = same-length c })
 
 pub whole-spec : {M : Type 1} → statement M
 whole-spec =

@@ -40,7 +40,7 @@ returns : tie.Need-returns
 returns c =
     let f = c .before .before .before .before .before .before .before in
     let sixty : length (f .args .c .word) ≡ 60 = search needs in
-    c .before .position .ensures ∙ same-place (f .pre) sixty
+    c .before .position .ensures .0 ∙ same-place (f .pre) sixty
 
 pub place-on-spec : {M : Type 1} → statement M
 place-on-spec =

@@ -33,17 +33,17 @@ cast-t12 c = let f = c .before .before .before .before .before .before .before i
 cast-t14 : tie.Need-cast-t14
 cast-t14 c =
     let held = c .before .before .before .before .before in
-    omega (arith, limits (held .before .before .before .pre .0) .short, held .hold .ensures .fits)
+    omega (arith, limits (held .before .before .before .pre .0) .short, held .hold .ensures .0 .fits)
 
 cast-t15 : tie.Need-cast-t15
 cast-t15 c =
     let held = c .before .before .before .before .before .before in
-    omega (arith, limits (held .before .before .before .pre .0) .short, held .hold .ensures .fits, held .hold .ensures .inside)
+    omega (arith, limits (held .before .before .before .pre .0) .short, held .hold .ensures .0 .fits, held .hold .ensures .0 .inside)
 
 returns : tie.Need-returns
 returns c =
     let held = c .before .before .before .before .before .before in
-    (refl, started-at (held .before .before .before .pre .0) (held .hold .ensures))
+    (refl, started-at (held .before .before .before .pre .0) (held .hold .ensures .0))
 
 pub start-at-spec : {M : Type 1} → statement M
 start-at-spec =

@@ -121,13 +121,13 @@ root-of c = c .before .before .before
 sub-result : tie.Need-sub-result
 sub-result c =
     let rooted = root-of (c .before .before .before) in
-    word-inside (begun (word rooted) .pre) (located-at (word rooted)) (rooted .shortest-root .ensures) (ended rooted .whole .ensures)
+    word-inside (begun (word rooted) .pre) (located-at (word rooted)) (rooted .shortest-root .ensures) (ended rooted .whole .ensures .0)
 
 first-fit-requires : tie.Need-first-fit-requires
 first-fit-requires c κs =
     let written = c .before .before .before .before in
     let rooted = root-of written in
-    text-room (begun (word rooted) .pre) (located-at (word rooted)) (rooted .shortest-root .ensures) (written .write-from .ensures)
+    text-room (begun (word rooted) .pre) (located-at (word rooted)) (rooted .shortest-root .ensures) (written .write-from .ensures .0)
     (sym (slice-aggregate-text (written .before .before)))
 
 -- at the end: the sum is the place, so it is small
@@ -135,8 +135,8 @@ returns-2 : tie.Need-returns-2
 returns-2 c =
     let written = c .before .before .before .before .before .before in
     let rooted = root-of written in
-    text-place (begun (word rooted) .pre) (located-at (word rooted)) (rooted .shortest-root .ensures) (written .write-from .ensures)
-    (sym (slice-aggregate-text (written .before .before))) (ended rooted .whole .ensures) (c .before .first-fit .ensures)
+    text-place (begun (word rooted) .pre) (located-at (word rooted)) (rooted .shortest-root .ensures) (written .write-from .ensures .0)
+    (sym (slice-aggregate-text (written .before .before))) (ended rooted .whole .ensures .0) (c .before .first-fit .ensures)
 
 add-result : tie.Need-add-result
 add-result c =

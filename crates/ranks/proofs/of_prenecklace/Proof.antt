@@ -18,7 +18,7 @@ slice-aggregate-divisor-sum : tie.Need-slice-aggregate-divisor-sum
 slice-aggregate-divisor-sum c = search needs
 
 divisor-sum-requires : tie.Need-divisor-sum-requires
-divisor-sum-requires c κs = sized-summable (limits (c .before .before .before .before .before .before .before .pre .0 .shaped)) (c .before .before .before .sizes .ensures)
+divisor-sum-requires c κs = sized-summable (limits (c .before .before .before .before .before .before .before .pre .0 .shaped)) (c .before .before .before .sizes .ensures .0)
 
 -- what the sum is
 abbrev Summed : Type 0
@@ -28,7 +28,7 @@ sum-is : (c : Summed) → let a = c .before .before .before .before .before .bef
 sum-is c =
     let a = c .before .before .before .before .before .before .before .before .args in
     let p = c .before .before .before .before .before .before .before .before .pre in
-    c .divisor-sum .ensures ∙ rank-sum (a .s .k) (a .s .n) (a .w .now) (c .before .before .before .before .sizes .result) (p .0 .long) (limits (p .0 .shaped) .some) (p .1) (c .before .before .before .before .sizes .ensures)
+    c .divisor-sum .ensures ∙ rank-sum (a .s .k) (a .s .n) (a .w .now) (c .before .before .before .before .sizes .result) (p .0 .long) (limits (p .0 .shaped) .some) (p .1) (c .before .before .before .before .sizes .ensures .0)
 
 cast-result : tie.Need-cast-result
 cast-result c =
@@ -44,7 +44,7 @@ same-length c = search needs
 returns : tie.Need-returns
 returns c =
     let a = c .before .before .before .before .before .before .before .before .args in
-    part (c .divisor-sum .result) (a .s .n) (rank (a .s .k) (a .w .now)) (sum-is c) (record { sfits = c .divisor-sum .ok }) (div-result c)
+    (part (c .divisor-sum .result) (a .s .n) (rank (a .s .k) (a .w .now)) (sum-is c) (record { sfits = c .divisor-sum .ok }) (div-result c), record { size = same-length c })
 
 pub of-prenecklace-spec : {M : Type 1} → statement M
 of-prenecklace-spec = tie.close (tie.spec sizes-requires slice-aggregate-divisor-sum divisor-sum-requires cast-result div-result same-length returns)

@@ -43,7 +43,7 @@ returns c =
     let ranked = c .before .before in
     let floored = ranked .before .before .before .before .before in
     let at = floored .before .before .before .before in
-    floored-rank (start at .pre) (same at) (floored .floor .ensures) (ranked .of-prenecklace .ensures)
+    floored-rank (start at .pre) (same at) (floored .floor .ensures) (ranked .of-prenecklace .ensures .0)
 
 pub of-word-spec : {M : Type 1} → statement M
 of-word-spec = tie.close (tie.spec array-borrow-prefix-room slice-aggregate-v copy-requires floor-requires slice-aggregate-of-prenecklace of-prenecklace-requires returns)

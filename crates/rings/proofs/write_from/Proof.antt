@@ -69,7 +69,7 @@ same-length-2 : tie.Need-same-length-2 Inv-loop μ-loop
 same-length-2 c = c .before .loop .inv .kept
 
 returns : tie.Need-returns Inv-loop μ-loop
-returns c = print-ends (c .before .loop .inv) (c .loop-test .left)
+returns c = (print-ends (c .before .loop .inv) (c .loop-test .left), record { size = same-length c })
 
 pub write-from-spec : {M : Type 1} → statement M
 write-from-spec =

@@ -28,7 +28,7 @@ same-length c = search needs
 returns : tie.Need-returns
 returns c =
     let (on, _, inside, _) = c .before .before .before .before .before .before .before .before .before .pre in
-    index-told (c .before .before .before .before .before .goal .given .1) on inside (c .before .before .of-prenecklace .ensures)
+    index-told (c .before .before .before .before .before .goal .given .1) on inside (c .before .before .of-prenecklace .ensures .0)
 
 same-length-2 : tie.Need-same-length-2
 same-length-2 c = search needs
@@ -36,7 +36,7 @@ same-length-2 c = search needs
 returns-2 : tie.Need-returns-2
 returns-2 c =
     let (on, _, inside, _) = c .before .before .before .before .before .before .before .before .before .pre in
-    position-told (c .before .before .before .before .before .goal2 .given .1) on inside (c .before .before .whole .ensures)
+    position-told (c .before .before .before .before .before .goal2 .given .1) on inside (c .before .before .whole .ensures .0)
 
 pub reaches-spec : {M : Type 1} → statement M
 reaches-spec = tie.close (tie.spec enum-known-goal of-prenecklace-requires enum-known-goal-2 whole-requires same-length returns same-length-2 returns-2)
