@@ -1,3 +1,4 @@
 -- Laws of checked arguments and of answers.
+pub mod Order
 pub mod Checks
 pub mod Answers
