@@ -5,12 +5,12 @@ use Prim.Native.Nat.{ℕ, _+_, _≤_, _<_}
 use native.Mathlib.Omega.{arith}
 use native.Mathlib.Nat.{add-zero}
 use native.Mathlib.Numerals.{add-one}
-use lib.ListN.{length, getD, take, set, length-append}
-use lib.Seq.{take-suc, take-suc-set, take-all}
+use lib.ListN.{length, getD, take, drop, set, length-append}
+use lib.Seq.{take-suc, take-suc-set, take-all, drop-drop, drop-set-lt}
 use Rattle.texts.specs.Texts.{Adds}
 
 pub adds-none : (b : List ℕ) (at : ℕ) → Adds b at [] b at
-adds-none b at = record { ends = omega arith; stands = sym (append-nil (take at b)) }
+adds-none b at = record { ends = omega arith; stands = sym (append-nil (take at b)); behind = refl }
 
 -- one text behind the other
 pub adds-more : {b c d : List ℕ} {at e f : ℕ} {x y : List ℕ} → Adds b at x c e → Adds c e y d f → Adds b at (x ++ y) d f
@@ -18,11 +18,17 @@ adds-more {b} {c} {d} {at} {e} {f} {x} {y} p q =
     record {
       ends = omega (arith, p .ends, q .ends, length-append x y);
       stands = q .stands ∙ ap (λ r. r ++ y) (p .stands) ∙ append-assoc (take at b) x y;
+      behind = q .behind ∙ rw (q .ends, ← drop-drop (length y) e c, ← drop-drop (length y) e b) (ap (drop (length y)) (p .behind));
     }
 
 -- one byte more
 pub adds-byte : (out : List ℕ) (m b : ℕ) → m < length out → Adds out m (b ∷ []) (set out m b) (m + 1)
-adds-byte out m b h = record { ends = refl; stands = ap (λ j. take j (set out m b)) (add-one m) ∙ take-suc-set out m b h }
+adds-byte out m b h =
+    record {
+      ends = refl;
+      stands = ap (λ j. take j (set out m b)) (add-one m) ∙ take-suc-set out m b h;
+      behind = drop-set-lt (m + 1) out m b (omega arith);
+    }
 
 pub adds-last : {b c : List ℕ} {at e : ℕ} {x text : List ℕ} (y : ℕ) → Adds b at x c e → e < length c → text ≡ x ++ (y ∷ [])
     → Adds b at text (set c e y) (e + 1)

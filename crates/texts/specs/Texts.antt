@@ -4,7 +4,7 @@ use mathlib.Core.Bool.{true, false}
 use mathlib.Core.List.{List, [], _∷_, _++_}
 use Prim.Native.Nat.{ℕ, zero, suc, _+_, _/_, _%_}
 use lib.Dec.{ltb}
-use lib.ListN.{length, take}
+use lib.ListN.{length, take, drop}
 use Rattle.theory.specs.Words.{pick}
 
 -- a number's decimal digits, the highest first; one more turn than the number is always enough
@@ -23,7 +23,8 @@ abbrev pub glyphs : List ℕ → List ℕ
 glyphs [] = []
 glyphs (a ∷ w) = glyph a ∷ glyphs w
 
--- text added behind the first `at` bytes of a buffer: what stands there then, and where it ends
+-- text added behind the first `at` bytes of a buffer: where it ends, what stands there then, and that the bytes behind it are as they were
 pub record Adds (before : List ℕ) (at : ℕ) (text after : List ℕ) (end : ℕ) : Type 0 where
   pub ends : end ≡ at + length text
   pub stands : take end after ≡ take at before ++ text
+  pub behind : drop end after ≡ drop end before
