@@ -21,7 +21,6 @@ use Rattle.calls.specs.Refusals.{theWordFault, indexFault}
 use Rattle.words.specs.Says.{RankSays, WordSays}
 use Rattle.marks.specs.Says.{PlaceSays, PrintSays}
 use Rattle.words.proofs.Indexes.{index-fine}
-use Rattle.listing.proofs.Whole.{whole-listing}
 use Rattle.demands.specs.Demands.{Demands}
 use Rattle.demands.proofs.Faults.{admitted-limits, strip-fine, place-faultless}
 use Rattle.demands.proofs.Trays.{into-fine, number-fine, number-back, tray-back, small, kept}
@@ -77,4 +76,4 @@ window-back k n w t t′ u u′ r q a e m x y f g =
     (placed .0, printed .0, printed .1 ∙ ap (λ x. over x u) reads)
 
 pub demands : Demands
-demands = record { theorems = theorems; number-back = number-back; word-back = word-back; rank-back = rank-back; place-back = place-back; window-back = window-back; walk = walk; one-step = one-step; laid = laid; laid-only = laid-only; kept = kept; listed = whole-listing }
+demands = record { theorems = theorems; number-back = number-back; word-back = word-back; rank-back = rank-back; place-back = place-back; window-back = window-back; walk = walk; one-step = one-step; laid = laid; laid-only = laid-only; kept = kept }

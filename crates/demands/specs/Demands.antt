@@ -21,7 +21,6 @@ use Rattle.cursors.specs.declared.Cursor as DC
 use Rattle.cursors.specs.declared.Started as DS
 use Rattle.cursors.specs.declared.Stepped as DT
 use Rattle.cursors.specs.Cursors.{StartSays, WhereSays, StepSays}
-use Rattle.listing.specs.Lines.{Whole-listing}
 use Rattle.demands.specs.Walked.{Walked}
 
 pub record Demands : Type 0 where
@@ -57,5 +56,3 @@ pub record Demands : Type 0 where
       (i < sectionCount s) × (d + marks s ≤ nthS (sections s) i .long) × (window (shades s) (marks s) (nthS (sections s) i .offset + d) ≡ w)
   -- every call with a tray leaves it as it was after a refusal, and never changes its length
   pub kept : (f : ℕ) (b t t′ : List ℕ) (r : ℕ) → Into f b t t′ r → (r ≢ 0 → t′ ≡ t) × (length t′ ≡ length t)
-  -- the lines that listing::line_at answers for a plan, joined, are its listing
-  pub listed : Whole-listing

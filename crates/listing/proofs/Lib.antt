@@ -1,6 +1,4 @@
--- Laws of lines.
-pub mod Lines
+-- Laws of the listing.
 pub mod Building
 pub mod Sections
 pub mod Openings
-pub mod Whole

@@ -1,3 +1,2 @@
--- The text of a plan's listing, and a line of it as it is answered.
+-- The text of a plan's listing.
 pub mod Listings
-pub mod Lines

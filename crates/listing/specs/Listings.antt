@@ -1,13 +1,12 @@
 -- The listing of a plan: everything that the program `stripwalk` prints for the bytes of a plan.
-use mathlib.Core.Path.{_≡_}
-use mathlib.Core.Bool.{_&&_}
 use mathlib.Core.List.{List, [], _∷_, _++_}
-use Prim.Native.Nat.{ℕ, zero, suc, _^_}
-use lib.Dec.{eqb, ltb}
+use Prim.Native.Nat.{ℕ, suc, _*_, _^_}
+use lib.Dec.{eqb}
 use Rattle.theory.specs.Words.{pick}
 use Rattle.theory.specs.Strips.{window}
-use Rattle.theory.specs.Plans.{Section, shades, marks, sectionCount, sections, nthS, planFault}
+use Rattle.theory.specs.Plans.{Section, shades, marks, sections, planFault}
 use Rattle.texts.specs.Texts.{decimal, glyphs}
+use Rattle.plans.specs.declared.Section as DX
 
 -- a line: its fields parted by a space (byte 32), then byte 10
 abbrev pub fields : List ℕ → List (List ℕ) → List ℕ
@@ -42,18 +41,13 @@ listing s =
     (stripLine (shades s) (marks s) ++ sectionLines (shades s) (marks s) 0 (sections s))
     (refusedLine (planFault s))
 
--- the same line by line: how many lines, and each
-abbrev pub lineCount : List ℕ → ℕ
-lineCount s = pick (eqb (planFault s) 0) (suc (sectionCount s)) 1
+-- bytes that hold any line, and any listing: a plan has at most 500 sections
+abbrev pub line : ℕ
+line = 128
 
-abbrev pub lineOf : List ℕ → ℕ → List ℕ
-lineOf s zero = pick (eqb (planFault s) 0) (stripLine (shades s) (marks s)) (refusedLine (planFault s))
-lineOf s (suc i) = pick (eqb (planFault s) 0 && ltb i (sectionCount s)) (sectionLine (shades s) (marks s) i (nthS (sections s) i)) []
+abbrev pub most : ℕ
+most = 501 * line
 
-abbrev pub linesFrom : ℕ → ℕ → List ℕ → List ℕ
-linesFrom zero i s = []
-linesFrom (suc l) i s = lineOf s i ++ linesFrom l (suc i) s
-
--- lines and listing agree
-abbrev pub By-lines : Type 0
-By-lines = (s : List ℕ) → linesFrom (lineCount s) 0 s ≡ listing s
+-- the numbers of a section as they were read from a plan
+abbrev pub sectionOf : DX.Section → Section
+sectionOf x = record { offset = x .offset; long = x .long }

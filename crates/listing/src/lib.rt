@@ -1,11 +1,11 @@
-// The listing of a plan, line by line.
-ghost use mathlib.Core.Path.{_≡_};
-ghost use mathlib.Core.List.{[]};
-ghost use Prim.Native.Nat.{_<_};
+// The listing of a plan: the line of its strip and a line for each section, or the one line of a refusal.
+ghost use Prim.Native.Nat.{_+_, _≤_, _<_};
+ghost use lib.ListN.{length};
+ghost use Rattle.theory.specs.Plans.{sections};
 ghost use Rattle.shape.specs.Shapes.{Shaped};
-ghost use Rattle.listing.specs.Listings.{stripLine, sectionLine, refusedLine, lineCount, lineOf};
-ghost use Rattle.plans.specs.Opened.{Opens, Accepted};
-ghost use Rattle.listing.specs.Lines.{LineIs, sectionOf};
+ghost use Rattle.texts.specs.Texts.{Adds};
+ghost use Rattle.plans.specs.Opened.{Accepted};
+ghost use Rattle.listing.specs.Listings.{line, most, stripLine, sectionLine, sectionLines, refusedLine, listing, sectionOf};
 use calls::Checked;
 use plans::Section;
 use shape::Strip;
@@ -13,98 +13,70 @@ use shape::Strip;
 // Bytes that hold any line.
 const LINE: usize = 128;
 
-// A line in the first `long` bytes.
-pub struct Line {
-    pub bytes: [u8; LINE],
-    pub long: usize,
-}
-
-// No bytes.
-fn empty() -> Line
-    ensures { λ r. ⌜ LineIs [] r ⌝ }
-{
-    let bytes = [0u8; LINE];
-    Line { bytes, long: 0 }
-}
+// Bytes that hold any listing: a plan has at most 500 sections.
+pub const MOST: usize = LINE * 501;
 
 // The one line of a refused plan.
-fn refused_line(number: u8) -> Line
-    ensures { λ r. ⌜ LineIs (refusedLine number) r ⌝ }
+fn put_refused(number: u8, out: &mut [u8]) -> usize
+    requires { ⌜ line ≤ length (now out) ⌝ }
+    ensures { λ r. ⌜ Adds (now (out .entry)) 0 (refusedLine number) (now (out .exit)) r ⌝ }
 {
-    let mut bytes = [0u8; LINE];
-    let end = texts::put_bytes(b"refused ", &mut bytes, 0);
-    let long = texts::put_number(number as u64, b'\n', &mut bytes, end);
-    Line { bytes, long }
+    let end = texts::put_bytes(b"refused ", out, 0);
+    texts::put_number(number as u64, b'\n', out, end)
 }
 
 // The strip that a plan is laid on.
-fn strip_line(s: Strip) -> Line
-    requires { ⌜ Shaped s ⌝ }
-    ensures { λ r. ⌜ LineIs (stripLine (s .k) (s .n)) r ⌝ }
+fn put_strip(s: Strip, out: &mut [u8]) -> usize
+    requires { ⌜ Shaped s × (line ≤ length (now out)) ⌝ }
+    ensures { λ r. ⌜ Adds (now (out .entry)) 0 (stripLine (s .k) (s .n)) (now (out .exit)) r × (r ≤ line) ⌝ }
 {
-    let mut bytes = [0u8; LINE];
-    let word = texts::put_bytes(b"strip ", &mut bytes, 0);
-    let shades = texts::put_number(s.k, b' ', &mut bytes, word);
-    let marks = texts::put_number(s.n, b' ', &mut bytes, shades);
-    let long = texts::put_number(s.size, b'\n', &mut bytes, marks);
-    Line { bytes, long }
+    let word = texts::put_bytes(b"strip ", out, 0);
+    let shades = texts::put_number(s.k, b' ', out, word);
+    let marks = texts::put_number(s.n, b' ', out, shades);
+    texts::put_number(s.size, b'\n', out, marks)
 }
 
 // The number, offset and length of a section, and its first window.
-fn section_line(s: Strip, i: u64, section: Section) -> Line
-    requires { ⌜ Shaped s × (section .offset < s .size) ⌝ }
-    ensures { λ r. ⌜ LineIs (sectionLine (s .k) (s .n) i (sectionOf section)) r ⌝ }
+fn put_section(s: Strip, i: u64, section: Section, out: &mut [u8], at: usize) -> usize
+    requires { ⌜ Shaped s × (section .offset < s .size) × (at + line ≤ length (now out)) ⌝ }
+    ensures { λ r. ⌜ Adds (now (out .entry)) at (sectionLine (s .k) (s .n) i (sectionOf section)) (now (out .exit)) r × (r ≤ at + line) ⌝ }
 {
-    let mut bytes = [0u8; LINE];
-    let number = texts::put_number(i, b' ', &mut bytes, 0);
-    let offset = texts::put_number(section.offset, b' ', &mut bytes, number);
-    let numbers = texts::put_number(section.long, b' ', &mut bytes, offset);
+    let number = texts::put_number(i, b' ', out, at);
+    let offset = texts::put_number(section.offset, b' ', out, number);
+    let numbers = texts::put_number(section.long, b' ', out, offset);
     let mut room = [0u8; Strip::LONGEST];
     let window = &mut room[..s.n as usize];
     access::letters(s, section.offset, window);
-    let end = texts::put_letters(window, &mut bytes, numbers);
-    let long = texts::put_bytes(b"\n", &mut bytes, end);
-    Line { bytes, long }
+    let end = texts::put_letters(window, out, numbers);
+    texts::put_bytes(b"\n", out, end)
 }
 
-// A line of an accepted plan: its strip, then its sections.
-fn accepted_line(plan: &[u8], s: Strip, i: u64) -> Line
-    requires { ⌜ Accepted (now plan) s ⌝ }
-    ensures { λ r. ⌜ LineIs (lineOf (now (plan .entry)) i) r ⌝ }
+// The sections of an accepted plan, one behind the other.
+fn put_sections(plan: &[u8], s: Strip, out: &mut [u8], at: usize) -> usize
+    requires { ⌜ Accepted (now plan) s × (at ≤ line) × (most ≤ length (now out)) ⌝ }
+    ensures { λ r. ⌜ Adds (now (out .entry)) at (sectionLines (s .k) (s .n) 0 (sections (now (plan .entry)))) (now (out .exit)) r ⌝ }
 {
-    if i == 0 {
-        return strip_line(s);
+    let count = plans::count(plan);
+    let mut filled = at;
+    let mut i = 0;
+    while i < count {
+        filled = put_section(s, i, plans::section_at(plan, i), out, filled);
+        i += 1;
     }
-    let section = i - 1;
-    if section < plans::count(plan) {
-        return section_line(s, section, plans::section_at(plan, section));
-    }
-    empty()
+    filled
 }
 
-// How many lines there are, of a plan that was opened.
-pub fn count(plan: &[u8], opened: Checked) -> u64
-    requires { ⌜ Opens (now plan) opened ⌝ }
-    ensures { λ r. ⌜ r ≡ lineCount (now (plan .entry)) ⌝ }
+// The listing of a plan, and how long it is.
+pub fn text(plan: &[u8], out: &mut [u8]) -> usize
+    requires { ⌜ most ≤ length (now out) ⌝ }
+    ensures { λ r. ⌜ Adds (now (out .entry)) 0 (listing (now (plan .entry))) (now (out .exit)) r ⌝ }
 {
+    let opened = plans::open(plan);
     match opened {
-        Checked::Strip(_) => plans::count(plan) + 1,
-        Checked::Refused(_) => 1,
-    }
-}
-
-// Line i of a plan that was opened; no bytes if there is none.
-pub fn line_at(plan: &[u8], opened: Checked, i: u64) -> Line
-    requires { ⌜ Opens (now plan) opened ⌝ }
-    ensures { λ r. ⌜ LineIs (lineOf (now (plan .entry)) i) r ⌝ }
-{
-    match opened {
-        Checked::Strip(s) => accepted_line(plan, s, i),
-        Checked::Refused(number) => {
-            if i == 0 {
-                return refused_line(number);
-            }
-            empty()
+        Checked::Strip(s) => {
+            let end = put_strip(s, out);
+            put_sections(plan, s, out, end)
         }
+        Checked::Refused(number) => put_refused(number, out),
     }
 }

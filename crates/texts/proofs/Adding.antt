@@ -5,12 +5,21 @@ use Prim.Native.Nat.{ℕ, _+_, _≤_, _<_}
 use native.Mathlib.Omega.{arith}
 use native.Mathlib.Nat.{add-zero}
 use native.Mathlib.Numerals.{add-one}
-use lib.ListN.{length, getD, take, drop, set, length-append}
-use lib.Seq.{take-suc, take-suc-set, take-all, drop-drop, drop-set-lt}
+use lib.ListN.{length, getD, take, drop, set, length-append, length-take}
+use lib.Seq.{length-take-le, take-suc, take-suc-set, take-all, drop-drop, drop-set-lt}
 use Rattle.texts.specs.Texts.{Adds}
 
 pub adds-none : (b : List ℕ) (at : ℕ) → Adds b at [] b at
 adds-none b at = record { ends = omega arith; stands = sym (append-nil (take at b)); behind = refl }
+
+-- the same text said otherwise
+pub adds-as : {b c : List ℕ} {at e : ℕ} {x text : List ℕ} → Adds b at x c e → x ≡ text → Adds b at text c e
+adds-as {b} {c} {at} {e} p t = subst (λ r. Adds b at r c e) t p
+
+-- it ends within the buffer
+pub adds-within : {b c : List ℕ} {at e : ℕ} {x : List ℕ} → Adds b at x c e → at ≤ length b → e ≤ length c
+adds-within {b} {c} {at} {e} {x} p h =
+    omega (arith, p .ends, ap length (p .stands), length-append (take at b) x, length-take-le at b h, length-take e c)
 
 -- one text behind the other
 pub adds-more : {b c d : List ℕ} {at e f : ℕ} {x y : List ℕ} → Adds b at x c e → Adds c e y d f → Adds b at (x ++ y) d f
@@ -32,7 +41,7 @@ adds-byte out m b h =
 
 pub adds-last : {b c : List ℕ} {at e : ℕ} {x text : List ℕ} (y : ℕ) → Adds b at x c e → e < length c → text ≡ x ++ (y ∷ [])
     → Adds b at text (set c e y) (e + 1)
-adds-last {b} {c} {at} {e} y p h t = subst (λ r. Adds b at r (set c e y) (e + 1)) (sym t) (adds-more p (adds-byte c e y h))
+adds-last {c = c} {e = e} y p h t = adds-as (adds-more p (adds-byte c e y h)) (sym t)
 
 -- a text byte by byte: none, one more, all
 pub adds-start : (b : List ℕ) (at : ℕ) (text : List ℕ) → Adds b at (take 0 text) b (at + 0)
@@ -46,4 +55,4 @@ adds-next {b} {c} {at} text i y p h g e =
     subst (λ j. Adds b at (take (i + 1) text) (set c (at + i) y) j) n (adds-last y p h t)
 
 pub adds-all : {b c : List ℕ} {at e : ℕ} (text : List ℕ) (i : ℕ) → Adds b at (take i text) c e → length text ≤ i → Adds b at text c e
-adds-all {b} {c} {at} {e} text i p h = subst (λ r. Adds b at r c e) (take-all i text h) p
+adds-all text i p h = adds-as p (take-all i text h)
