@@ -153,7 +153,8 @@ fn onward(s: Strip, c: Cursor) -> Stepped
     let mut word = c.word;
     let at = c.place as usize;
     let mark = word[at];
-    if c.place + 1 < c.long {
+    let next = c.place + 1;
+    if next < c.long {
         return Stepped {
             number: 0,
             mark,
@@ -163,7 +164,7 @@ fn onward(s: Strip, c: Cursor) -> Stepped
                 n: c.n,
                 word,
                 long: c.long,
-                place: c.place + 1,
+                place: next,
             },
         };
     }

@@ -1,19 +1,24 @@
--- An admitted strip: its limits, and no fault.
+-- Arguments without fault.
 use mathlib.Core.Path.{_≡_, refl}
 use mathlib.Core.Bool.{true}
-use Prim.Native.Nat.{ℕ, _^_, _<_}
+use mathlib.Core.List.{List}
+use Prim.Native.Nat.{ℕ, _^_, _≤_, _<_}
+use lib.ListN.{length}
+use borrow.Author.Tests.{eq-eqb}
+use Rattle.theory.specs.Words.{howMany, marksOk}
 use Rattle.theory.specs.Strips.{admitted, stripFault}
-use Rattle.shape.specs.declared.Strip as DS
-use Rattle.shape.proofs.Limits.{Limits, limits}
-use Rattle.calls.specs.Refusals.{placeFault}
+use Rattle.calls.specs.Refusals.{theWordFault, indexFault, placeFault}
 use Rattle.calls.proofs.Checks.{place-fine}
+use Rattle.words.proofs.Indexes.{index-fine}
 
-pub admitted-limits : (k n : ℕ) → admitted k n ≡ true → Limits k n
-admitted-limits k n a = let s : DS.Strip = record { k = k; n = n; size = k ^ n } in limits {s = s} (record { admit = a; size = refl })
+pub strip-faultless : (k n : ℕ) → admitted k n ≡ true → stripFault k n ≡ 0
+strip-faultless k n a = rw a refl
 
--- no fault
-pub strip-fine : (k n : ℕ) → admitted k n ≡ true → stripFault k n ≡ 0
-strip-fine k n a = rw a refl
+pub word-faultless : (k n : ℕ) (w : List ℕ) → admitted k n ≡ true → length w ≡ n → marksOk k w ≡ true → theWordFault k n w ≡ 0
+word-faultless k n w a e m = rw (a, eq-eqb (length w) n e, m) refl
+
+pub index-faultless : (k n i : ℕ) → admitted k n ≡ true → 1 ≤ i → i ≤ howMany k n → indexFault k n i ≡ 0
+index-faultless k n i a b c = rw (strip-faultless k n a) (index-fine k n i b c)
 
 pub place-faultless : (k n p : ℕ) → admitted k n ≡ true → p < k ^ n → placeFault k n p ≡ 0
-place-faultless k n p a h = rw (strip-fine k n a) (place-fine k n p h)
+place-faultless k n p a h = rw (strip-faultless k n a) (place-fine k n p h)

@@ -15,7 +15,7 @@ use Rattle.buffers.proofs.Bytes.{put-read}
 use Rattle.plans.proofs.Tests.{accepted-whole}
 use Rattle.lookups.specs.Says.{LookupSays}
 use Rattle.calls.proofs.Checks.{word-fine}
-use Rattle.demands.proofs.Faults.{admitted-limits}
+use Rattle.shape.proofs.Limits.{admitted-limits}
 use Rattle.demands.proofs.Trays.{into-fine, answered}
 
 -- the answer's bytes

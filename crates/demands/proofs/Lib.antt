@@ -1,6 +1,9 @@
 -- The promise, kept.
 pub mod Faults
 pub mod Trays
+pub mod Refused
+pub mod Words
+pub mod Marks
 pub mod Walking
 pub mod Laying
 pub mod Kept

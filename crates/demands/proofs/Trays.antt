@@ -1,21 +1,29 @@
--- What a call leaves in a tray: its answer over the start, or the tray as it was; and numbers read back from it.
-use mathlib.Core.Path.{_≡_, refl, _∙_, ap, subst}
+-- What a call leaves in a tray: its answer over the start, or the tray as it was; numbers read back from it; the record Trays.
+use mathlib.Core.Path.{_≡_, refl, sym, _∙_, ap, ap₂, subst}
 use mathlib.Core.Bool.{true, false}
-use mathlib.Core.List.{List, []}
+use mathlib.Core.List.{List, [], _++_}
 use mathlib.Core.Logic.{_≢_, inl, inr}
-use Prim.Native.Nat.{ℕ, zero, suc, _^_, _≤_, _<_}
+use Prim.Native.Nat.{ℕ, zero, suc, _-_, _^_, _≤_, _<_}
 use native.Mathlib.Omega.{arith}
 use lib.Dec.{eqb, ltb}
-use lib.ListN.{length}
+use lib.ListN.{length, drop}
+use lib.Seq.{drop-append-seam}
 use borrow.Author.Tests.{le-ltb, ltb-false, ne-eqb}
-use Rattle.theory.specs.Words.{pick}
-use Rattle.theory.specs.Strips.{admitted}
-use Rattle.theory.specs.Plans.{be}
+use Rattle.theory.specs.Words.{pick, firstOf, when, smallest, wordOf, rank}
+use Rattle.theory.specs.Strips.{admitted, stripFault, markAt, marksFrom, placeOf, strip}
+use Rattle.theory.specs.Plans.{be, lookupFault, layingOf, distanceOf}
 use Rattle.theory.proofs.Base.{test}
+use Rattle.theory.proofs.Necklaces.{smallest-length}
+use Rattle.theory.proofs.Reading.{letters-length}
+use Rattle.shape.proofs.Limits.{admitted-limits}
 use Rattle.buffers.specs.Buffers.{putBe, over}
 use Rattle.buffers.proofs.Bytes.{put-read, over-length}
-use Rattle.calls.specs.Answers.{Into, Number}
-use Rattle.demands.proofs.Faults.{admitted-limits}
+use Rattle.calls.specs.declared.Value as DV
+use Rattle.calls.specs.Answers.{Into, Number, ValueIs}
+use Rattle.calls.specs.Refusals.{theWordFault, indexFault, placeFault}
+use Rattle.calls.proofs.Checks.{first-none, word-fine}
+use Rattle.words.proofs.Indexes.{index-range, index-long}
+use Rattle.demands.specs.Trays.{Keeps, Trays}
 
 -- no fault, so the answer over the start of the tray
 pub into-fine : (f : ℕ) (b t : List ℕ) {t′ : List ℕ} {r : ℕ} → f ≡ 0 → length b ≤ length t → Into f (pick (eqb f 0) b []) t t′ r → (r ≡ 0) × (t′ ≡ over b t)
@@ -29,6 +37,14 @@ number-back v h = put-read 8 v h
 
 pub tray-back : (v : ℕ) (t : List ℕ) {t′ : List ℕ} → v < 2 ^ 64 → t′ ≡ over (putBe 8 v) t → be 0 8 t′ ≡ v
 tray-back v t h e = ap (be 0 8) e ∙ number-back v h
+
+-- a number and a value, without fault and with one
+pub value-fine : {f v : ℕ} {r : DV.Value} → f ≡ 0 → ValueIs f v r → (r .number ≡ 0) × (r .value ≡ v)
+value-fine {v = v} {r = r} h e = subst (λ x. ValueIs x v r) h e
+
+pub no-value : (f v : ℕ) (r : DV.Value) → ValueIs f v r → r .number ≢ 0 → r .value ≡ 0
+no-value zero v r e h = absurd (h (e .0))
+no-value (suc f) v r e h = rw (ne-eqb (suc f) 0 (λ z. omega arith)) at (e .1)
 
 -- places, ranks and counts stay below 2^64
 pub small : (k n : ℕ) {v : ℕ} → admitted k n ≡ true → v ≤ k ^ n → v < 2 ^ 64
@@ -45,17 +61,58 @@ answered zero b t {t′} e z = elim (test (ltb (length t) (length b))) [ inl h �
     fits h = rw h at e .1
 answered (suc f) b t e z = absurd (omega (arith, e .0, z))
 
-pub kept : (f : ℕ) (b t t′ : List ℕ) (r : ℕ) → Into f b t t′ r → (r ≢ 0 → t′ ≡ t) × (length t′ ≡ length t)
-kept zero b t t′ r e = elim (test (ltb (length t) (length b))) [ inl h ↦ small-tray h | inr h ↦ fits h ]
+-- a tray of an answer with m bytes
+pub keeps : (m f : ℕ) (b t t′ : List ℕ) (r : ℕ) → (f ≡ 0 → length b ≡ m) → Into f (pick (eqb f 0) b []) t t′ r → Keeps m t t′ r
+keeps m zero b t t′ r long e = elim (test (ltb (length t) (length b))) [ inl h ↦ as-before (rw h at e .1) | inr h ↦ answer h ]
   where
-    small-tray : ltb (length t) (length b) ≡ true → (r ≢ 0 → t′ ≡ t) × (length t′ ≡ length t)
-    small-tray h = let x = rw h at e .1 in (λ _. x, ap length x)
+    as-before : t′ ≡ t → Keeps m t t′ r
+    as-before x = (λ _. x, ap length x, ap (drop m) x)
 
-    fits : ltb (length t) (length b) ≡ false → (r ≢ 0 → t′ ≡ t) × (length t′ ≡ length t)
-    fits h =
+    answer : ltb (length t) (length b) ≡ false → Keeps m t t′ r
+    answer h =
         let none : r ≡ 0 = rw h at e .0 in
         let x : t′ ≡ over b t = rw h at e .1 in
-        (λ some. absurd (some none), ap length x ∙ over-length b t (ltb-false (length t) (length b) h))
-kept (suc f) b t t′ r e =
+        let size : length b ≡ m = long refl in
+        (λ some. absurd (some none), ap length x ∙ over-length b t (ltb-false (length t) (length b) h), ap₂ drop (sym size) x ∙ drop-append-seam b (drop (length b) t) ∙ ap (λ i. drop i t) size)
+keeps m (suc f) b t t′ r long e =
     let x : t′ ≡ t = rw (ne-eqb (suc f) 0 (λ z. omega arith)) at e .1 in
-    (λ _. x, ap length x)
+    (λ _. x, ap length x, ap (drop m) x)
+
+-- the number, by the answer's m bytes
+pub into-number : (m f : ℕ) (b t t′ : List ℕ) (r : ℕ) → (f ≡ 0 → length b ≡ m) → Into f (pick (eqb f 0) b []) t t′ r → r ≡ firstOf f (when (ltb (length t) m) 6)
+into-number m zero b t t′ r long e = e .0 ∙ ap (λ i. when (ltb (length t) i) 6) (long refl)
+into-number m (suc f) b t t′ r long e = e .0
+
+-- marks printed are an answer of c bytes
+pub print-into : (f c : ℕ) (x t t′ : List ℕ) (r : ℕ) → length x ≡ c
+    → (r ≡ firstOf f (when (ltb (length t) c) 6)) × (t′ ≡ pick (eqb (firstOf f (when (ltb (length t) c) 6)) 0) (over x t) t)
+    → Into f (pick (eqb f 0) x []) t t′ r
+print-into zero c x t t′ r long e =
+    subst (λ m. (r ≡ when (ltb (length t) m) 6) × (t′ ≡ pick (eqb (when (ltb (length t) m) 6) 0) (over x t) t)) (sym long) e
+print-into (suc f) c x t t′ r long e =
+    let other : eqb (suc f) 0 ≡ false = ne-eqb (suc f) 0 (λ z. omega arith) in
+    let same : t′ ≡ t = rw other at e .1 in
+    (e .0, rw other same)
+
+-- a word's length, where the word has no fault; and that of a word with an index
+pub word-long : (k n : ℕ) (w : List ℕ) → theWordFault k n w ≡ 0 → length w ≡ n
+word-long k n w z = word-fine k n w (first-none (stripFault k n) _ z .1) .0
+
+pub rotation-long : (k n : ℕ) (w : List ℕ) → theWordFault k n w ≡ 0 → length (smallest w) ≡ n
+rotation-long k n w z = smallest-length w ∙ word-long k n w z
+
+pub index-word-long : (k n i : ℕ) → indexFault k n i ≡ 0 → length (wordOf k n i) ≡ n
+index-word-long k n i z = let (some, few) = index-range k n i z in index-long k n i some few
+
+pub trays : Trays
+trays = record {
+  smallest-rotation = λ k n w t t′ r e. keeps n (theWordFault k n w) (smallest w) t t′ r (rotation-long k n w) e;
+  rank-of = λ k n w t t′ r e. keeps 8 (theWordFault k n w) (putBe 8 (rank k w)) t t′ r (λ _. refl) e;
+  word-of = λ k n i t t′ r e. keeps n (indexFault k n i) (wordOf k n i) t t′ r (index-word-long k n i) e;
+  mark-at = λ k n p t t′ r e. keeps 8 (placeFault k n p) (putBe 8 (markAt k n p)) t t′ r (λ _. refl) e;
+  place-of = λ k n w t t′ r e. keeps 8 (theWordFault k n w) (putBe 8 (placeOf k n w)) t t′ r (λ _. refl) e;
+  print-marks = λ k n p c t t′ r e.
+      let long = letters-length (k ^ n) (strip k n) p c in
+      keeps c (placeFault k n p) (marksFrom k n p c) t t′ r (λ _. long) (print-into (placeFault k n p) c (marksFrom k n p c) t t′ r long e);
+  look-up = λ s w t t′ r e. keeps 10 (lookupFault s w) (putBe 2 (layingOf s w - 1) ++ putBe 8 (distanceOf s w)) t t′ r (λ _. refl) e;
+}

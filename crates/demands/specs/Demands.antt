@@ -1,50 +1,92 @@
 -- The three demands as one record: the theorems about the definitions, and what follows for the bytes that the calls leave in trays.
--- A call's contract says what it gives for every argument (crate strip, Says): here it stands as a premise.
+-- A call's promise says what it gives for every argument (specs/Says of words, marks and lookups; Cursors of cursors): here it stands as a premise.
 use mathlib.Core.Path.{_≡_}
 use mathlib.Core.Bool.{true}
 use mathlib.Core.List.{List}
-use mathlib.Core.Logic.{_≢_}
+use mathlib.Core.Logic.{_↔_, _≢_}
 use Prim.Native.Nat.{ℕ, _+_, _^_, _≤_, _<_}
-use lib.ListN.{length, take, drop}
-use Rattle.theory.specs.Words.{marksOk, isLyndon, howMany}
+use lib.ListN.{length, getD, take, drop, replicate}
+use Rattle.theory.specs.Words.{below, upTo, turned, leastTurn, repeated, powerTo, marksOk, isLyndon, howMany, rank}
 use Rattle.theory.specs.Rings.{modulo}
-use Rattle.theory.specs.Strips.{admitted, markAt, marksFrom, window}
+use Rattle.theory.specs.Strips.{admitted, markAt, marksFrom, window, placeIn}
 use Rattle.theory.specs.Plans.{be, shades, marks, sectionCount, sections, nthS, planFault}
 use Rattle.theory.specs.Theorems.{Theorems}
 use Rattle.buffers.specs.Buffers.{putBe, over}
 use Rattle.calls.specs.declared.Value as DV
-use Rattle.calls.specs.Answers.{Into}
-use Rattle.words.specs.Says.{RankSays, WordSays}
-use Rattle.marks.specs.Says.{PlaceSays, PrintSays}
+use Rattle.calls.specs.Answers.{ValueIs}
+use Rattle.words.specs.Says.{LyndonSays, RotationSays, RootSays, ManySays, RankSays, WordSays}
+use Rattle.marks.specs.Says.{MarkSays, PlaceSays, PrintSays}
 use Rattle.lookups.specs.Says.{LookupSays}
 use Rattle.cursors.specs.declared.Cursor as DC
 use Rattle.cursors.specs.declared.Started as DS
 use Rattle.cursors.specs.declared.Stepped as DT
-use Rattle.cursors.specs.Cursors.{StartSays, WhereSays, StepSays}
-use Rattle.demands.specs.Walked.{Walked}
+use Rattle.cursors.specs.Cursors.{cursorIn, empty, cursorFault, StartSays, WhereSays, StepSays}
+use Rattle.demands.specs.Refused.{Refusals}
+use Rattle.demands.specs.Trays.{Trays}
+use Rattle.demands.specs.Walked.{Steps-on, Walked, fields, passedFrom}
 
 pub record Demands : Type 0 where
   pub theorems : Theorems
+  -- Refusals and trays, call by call
+  pub refusals : Refusals
+  pub trays : Trays
+  -- a refusal's value is 0
+  pub no-value : (f v : ℕ) (r : DV.Value) → ValueIs f v r → r .number ≢ 0 → r .value ≡ 0
   -- a number is read back from its 8 bytes
   pub number-back : (v : ℕ) → v < 2 ^ 64 → be 0 8 (putBe 8 v) ≡ v
+  -- Words
+  -- is_lyndon answers 1 for a word that is smaller than each of its proper rotations, 0 for any other
+  pub lyndon : (k n : ℕ) (w : List ℕ) (r : DV.Value) → admitted k n ≡ true → length w ≡ n → marksOk k w ≡ true → LyndonSays k n w r
+      → (r .number ≡ 0) × (r .value ≤ 1) × ((r .value ≡ 1) ↔ ((i : ℕ) → 1 ≤ i → i < n → below w (turned i w) ≡ true))
+  -- smallest_rotation writes a rotation that is not above any
+  pub rotation : (k n : ℕ) (w t t′ : List ℕ) (r : ℕ) → admitted k n ≡ true → length w ≡ n → marksOk k w ≡ true → n ≤ length t → RotationSays k n w t t′ r
+      → (r ≡ 0) × (take n t′ ≡ turned (leastTurn w) w) × ((i : ℕ) → upTo (take n t′) (turned i w) ≡ true)
+  -- shortest_root answers how many first letters, repeated, give the word; no shorter word does
+  pub root : (k n : ℕ) (w : List ℕ) (r : DV.Value) → admitted k n ≡ true → length w ≡ n → marksOk k w ≡ true → RootSays k n w r
+      → (r .number ≡ 0) × (1 ≤ r .value) × (powerTo n (take (r .value) w) ≡ w) × ((u : List ℕ) (e : ℕ) → w ≡ repeated e u → r .value ≤ length u)
+  -- lyndon_count answers the number of Lyndon words, rank_of writes the number of those up to a word
+  pub count : (k n : ℕ) (r : DV.Value) → admitted k n ≡ true → ManySays k n r → (r .number ≡ 0) × (r .value ≡ howMany k n)
+  pub ranked : (k n : ℕ) (w t t′ : List ℕ) (r : ℕ) → admitted k n ≡ true → length w ≡ n → marksOk k w ≡ true → 8 ≤ length t → RankSays k n w t t′ r
+      → (r ≡ 0) × (be 0 8 t′ ≡ rank k w)
   -- rank_of, then word_of with what it wrote, gives the Lyndon word back; and the other way round
   pub word-back : (k n : ℕ) (w t t′ u u′ : List ℕ) (r q : ℕ) → admitted k n ≡ true → length w ≡ n → marksOk k w ≡ true → isLyndon w ≡ true
       → 8 ≤ length t → n ≤ length u → RankSays k n w t t′ r → WordSays k n (be 0 8 t′) u u′ q → (r ≡ 0) × (q ≡ 0) × (u′ ≡ over w u)
   pub rank-back : (k n i : ℕ) (t t′ u u′ : List ℕ) (r q : ℕ) → admitted k n ≡ true → 1 ≤ i → i ≤ howMany k n
       → n ≤ length t → 8 ≤ length u → WordSays k n i t t′ r → RankSays k n (take n t′) u u′ q → (r ≡ 0) × (q ≡ 0) × (be 0 8 u′ ≡ i)
+  -- Marks and places
+  -- mark_at writes the strip's mark at a place
+  pub marked : (k n p : ℕ) (t t′ : List ℕ) (r : ℕ) → admitted k n ≡ true → p < k ^ n → 8 ≤ length t → MarkSays k n p t t′ r
+      → (r ≡ 0) × (be 0 8 t′ ≡ markAt k n p) × (be 0 8 t′ < k)
+  -- every window is read at exactly one place, and place_of writes that one
+  pub placed : (k n : ℕ) (w t t′ : List ℕ) (r : ℕ) → admitted k n ≡ true → length w ≡ n → marksOk k w ≡ true → 8 ≤ length t → PlaceSays k n w t t′ r
+      → (r ≡ 0) × (be 0 8 t′ < k ^ n) × (window k n (be 0 8 t′) ≡ w) × ((p : ℕ) → p < k ^ n → window k n p ≡ w → p ≡ be 0 8 t′)
   -- place_of on the window at a place writes that place, and no byte after it
   pub place-back : (k n p : ℕ) (t t′ : List ℕ) (r : ℕ) → admitted k n ≡ true → p < k ^ n → 8 ≤ length t
       → PlaceSays k n (window k n p) t t′ r → (r ≡ 0) × (be 0 8 t′ ≡ p) × (drop 8 t′ ≡ drop 8 t)
   -- place_of, then print_marks of n marks there, gives the window back
   pub window-back : (k n : ℕ) (w t t′ u u′ : List ℕ) (r q : ℕ) → admitted k n ≡ true → length w ≡ n → marksOk k w ≡ true
       → 8 ≤ length t → n ≤ length u → PlaceSays k n w t t′ r → PrintSays k n (be 0 8 t′) n u u′ q → (r ≡ 0) × (q ≡ 0) × (u′ ≡ over w u)
-  -- start_cursor at a place, any number of steps, cursor_place: the marks read are the strip's from that place on, and the place is as many further on
-  pub walk : (k n p : ℕ) (r : DS.Started) (ms : List ℕ) (d : DC.Cursor) (v : DV.Value) → admitted k n ≡ true → p < k ^ n
-      → StartSays k n p r → Walked (r .cursor) ms d → WhereSays d v
-      → (r .number ≡ 0) × (ms ≡ marksFrom k n p (length ms)) × (v .number ≡ 0) × (v .value ≡ modulo (p + length ms) (k ^ n))
-  -- a step from a place: the mark there, and no more words passed than a window has marks
-  pub one-step : (k n p : ℕ) (r : DS.Started) (q : DT.Stepped) → admitted k n ≡ true → p < k ^ n → StartSays k n p r → StepSays (r .cursor) q
-      → (q .number ≡ 0) × (q .mark ≡ markAt k n p) × (q .passed ≤ n)
+  -- print_marks of any number of marks: each is the strip's, round the end as often as need be
+  pub printed : (k n p c : ℕ) (t t′ : List ℕ) (r : ℕ) → admitted k n ≡ true → p < k ^ n → c ≤ length t → PrintSays k n p c t t′ r
+      → (r ≡ 0) × (take c t′ ≡ marksFrom k n p c) × ((j : ℕ) → j < c → getD t′ j 0 ≡ markAt k n (p + j))
+  -- Cursors
+  -- a start: a cursor without fault on the place; refused, one that is zero in every field
+  pub started : (k n p : ℕ) (r : DS.Started) → admitted k n ≡ true → p < k ^ n → StartSays k n p r
+      → (r .number ≡ 0) × (r .cursor .k ≡ k) × (r .cursor .n ≡ n) × (cursorFault (r .cursor) ≡ 0) × (placeIn (cursorIn (r .cursor)) ≡ p)
+  pub not-started : (k n p : ℕ) (r : DS.Started) → StartSays k n p r → r .number ≢ 0 → empty (r .cursor) ≡ true
+  -- any cursor without fault tells its place, which is on the strip
+  pub stands : (c : DC.Cursor) (v : DV.Value) → cursorFault c ≡ 0 → WhereSays c v
+      → (v .number ≡ 0) × (v .value ≡ placeIn (cursorIn c)) × (v .value < c .k ^ c .n)
+  -- a step of any cursor without fault; refused, it gives the cursor back
+  pub step : (c : DC.Cursor) (q : DT.Stepped) → cursorFault c ≡ 0 → StepSays c q → Steps-on c q
+  pub not-stepped : (c : DC.Cursor) (q : DT.Stepped) → StepSays c q → q .number ≢ 0 → (q .mark ≡ 0) × (q .passed ≡ 0) × (q .cursor ≡ c)
+  -- start_cursor at a place, any number of steps, cursor_place: no step is refused, the marks read are the strip's from that place on, the words passed
+  -- are those from word to word, and the place is as many further on
+  pub walk : (k n p : ℕ) (r : DS.Started) (qs : List DT.Stepped) (d : DC.Cursor) (v : DV.Value) → admitted k n ≡ true → p < k ^ n
+      → StartSays k n p r → Walked (r .cursor) qs d → WhereSays d v
+      → (r .number ≡ 0) × (fields (λ q. q .number) qs ≡ replicate (length qs) 0) × (fields (λ q. q .mark) qs ≡ marksFrom k n p (length qs))
+      × (fields (λ q. q .passed) qs ≡ passedFrom k n p (length qs)) × (v .number ≡ 0) × (v .value ≡ modulo (p + length qs) (k ^ n))
+  -- Plans
   -- look_up on the window at a distance in a section of an accepted plan writes that section and that distance, and no byte after them
   pub laid : (s : List ℕ) (i d : ℕ) (t t′ : List ℕ) (r : ℕ) → planFault s ≡ 0 → i < sectionCount s → d + marks s ≤ nthS (sections s) i .long
       → 10 ≤ length t → LookupSays s (window (shades s) (marks s) (nthS (sections s) i .offset + d)) t t′ r
@@ -54,5 +96,3 @@ pub record Demands : Type 0 where
       → let i = be 0 2 t′ in
       let d = be 2 8 t′ in
       (i < sectionCount s) × (d + marks s ≤ nthS (sections s) i .long) × (window (shades s) (marks s) (nthS (sections s) i .offset + d) ≡ w)
-  -- every call with a tray leaves it as it was after a refusal, and never changes its length
-  pub kept : (f : ℕ) (b t t′ : List ℕ) (r : ℕ) → Into f b t t′ r → (r ≢ 0 → t′ ≡ t) × (length t′ ≡ length t)

@@ -47,6 +47,11 @@ pub letters-length : (m : ℕ) (s : List ℕ) (p c : ℕ) → length (lettersOn 
 letters-length m s p zero = refl
 letters-length m s p (suc c) = ap suc (letters-length m s (suc p) c)
 
+pub letters-at : (m : ℕ) (s : List ℕ) (p c j : ℕ) → j < c → getD (lettersOn m s p c) j 0 ≡ letterOn m s (p + j)
+letters-at m s p zero j h = absurd (omega arith)
+letters-at m s p (suc c) zero h = ap (letterOn m s) (sym (add-zero p))
+letters-at m s p (suc c) (suc j) h = letters-at m s (suc p) c j (omega arith) ∙ ap (letterOn m s) (suc-add p j ∙ sym (add-suc p j))
+
 pub letters-split : (m : ℕ) (s : List ℕ) (p c d : ℕ) → lettersOn m s p (c + d) ≡ lettersOn m s p c ++ lettersOn m s (p + c) d
 letters-split m s p zero d = rw (zero-add d, add-zero p)
 letters-split m s p (suc c) d =

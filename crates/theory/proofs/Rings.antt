@@ -9,11 +9,11 @@ use native.Mathlib.Nat.{suc-mul, one-le-pow}
 use lib.Dec.{leb}
 use lib.ListN.{length, take, drop, replicate, length-drop, take-append-drop}
 use lib.Seq.{length-take-le, take-append-seam}
-use borrow.Author.Tests.{leb-true}
+use borrow.Author.Tests.{leb-true, ltb-true}
 use Rattle.theory.specs.Words.{below, turned, smallest, root, marksOk, allWords, powerTo}
 use Rattle.theory.specs.Lists.{In, Ascending}
 use Rattle.theory.specs.Rings.{Allowed, divides, ringWords, ring, modulo, findOn, lettersOn, beforeW, windowOn, placeOn}
-use Rattle.theory.specs.Strips.{admitted, stripWords, strip, placeOf, window, divisorOf}
+use Rattle.theory.specs.Strips.{admitted, stripWords, strip, markAt, placeOf, window, divisorOf}
 use Rattle.theory.specs.Theorems.{Ring, One-place}
 use Rattle.theory.proofs.Base.{and-l, and-r}
 use Rattle.theory.proofs.Order.{lt-below, Prefix, prefix-take, take-prefix}
@@ -109,6 +109,10 @@ window-marks k n p h s =
     let long = strip-long k n h s in
     subst (λ x. marksOk k (lettersOn x (strip k n) p n) ≡ true) long
     (letters-marks k (strip k n) p n (omega (arith, long, one-le-pow n k (omega arith))) (marks-joined k (stripWords k n) (λ w i. ring-words (divisorOf n) k n w .0 i .1)))
+
+pub mark-below : (k n p : ℕ) → 2 ≤ k → 1 ≤ n → markAt k n p < k
+mark-below k zero p h s = absurd (omega arith)
+mark-below k (suc n) p h s = ltb-true (markAt k (suc n) p) k (and-l _ _ (window-marks k (suc n) p h s))
 
 pub place-is : (k n : ℕ) (w : List ℕ) → 2 ≤ k → 1 ≤ n → placeOn (divisorOf n) k n w ≡ placeOf k n w
 place-is k n w h s = ap (λ x. findOn x 0 x (strip k n) n w) (strip-long k n h s)

@@ -29,10 +29,15 @@ module _ (k n i : ℕ) where
   pub index-long : 1 ≤ i → i ≤ howMany k n → length (wordOf k n i) ≡ n
   index-long a b = undone .index-word k n i a b .0
 
+  pub index-range : indexFault k n i ≡ 0 → (1 ≤ i) × (i ≤ howMany k n)
+  index-range z =
+      let (some, few) = or-false (eqb i 0) _ (when-none _ 5 (λ e. omega arith) (first-none (stripFault k n) _ z .1)) in
+      let nonzero = eqb-false i 0 some in
+      (omega arith, ltb-false (howMany k n) i few)
+
   -- the check of an index, passed
   pub index-checked : {c : Checked} {s : DS.Strip} → Checks (indexFault k n i) k n c → c ≡ Strip s → StripIs k n s × (1 ≤ i) × (i ≤ howMany k n)
   index-checked e g =
       let on = strip-is (indexFault k n i) k n (λ z. first-none (stripFault k n) _ z .0) e g in
-      let (some, few) = or-false (eqb i 0) _ (when-none _ 5 (λ z. omega arith) (first-none (stripFault k n) _ (passed (indexFault k n i) k n e g .0) .1)) in
-      let nonzero = eqb-false i 0 some in
-      (on, omega arith, ltb-false (howMany k n) i few)
+      let (some, few) = index-range (passed (indexFault k n i) k n e g .0) in
+      (on, some, few)

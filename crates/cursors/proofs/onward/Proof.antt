@@ -31,15 +31,12 @@ cast-at c = search needs
 array-read-mark : tie.Need-array-read-mark
 array-read-mark c = inside (c .before .before)
 
-add-if1 : tie.Need-add-if1
-add-if1 c = omega (arith, inside (c .before .before .before))
-
-add-t13 : tie.Need-add-t13
-add-t13 c = search needs
+add-next : tie.Need-add-next
+add-next c = omega (arith, inside (c .before .before .before))
 
 returns : tie.Need-returns
 returns c =
-    let f = c .before .before .before .before .before .before in
+    let f = c .before .before .before .before .before in
     goes-inside (f .pre) (sixty f) (omega arith)
 
 cast-marks : tie.Need-cast-marks
@@ -57,8 +54,8 @@ cast-next-word c = search needs
 next-word-requires : tie.Need-next-word-requires
 next-word-requires c κs = let f = behind (c .before .before .before) in held-on (f .pre) (sixty f)
 
-cast-t10 : tie.Need-cast-t10
-cast-t10 c =
+cast-t11 : tie.Need-cast-t11
+cast-t11 c =
     let f = behind (c .before .before .before .before .before .before) in
     omega (arith, next-short (f .pre) (sixty f) (c .before .before .next-word .ensures), fits f, sixty f)
 
@@ -70,4 +67,4 @@ returns-2 c =
 pub onward-spec : {M : Type 1} → statement M
 onward-spec =
     tie.close
-    (tie.spec cast-at array-read-mark add-if1 add-t13 returns cast-marks array-borrow-prefix-word slice-aggregate-next-word cast-next-word next-word-requires cast-t10 returns-2)
+    (tie.spec cast-at array-read-mark add-next returns cast-marks array-borrow-prefix-word slice-aggregate-next-word cast-next-word next-word-requires cast-t11 returns-2)

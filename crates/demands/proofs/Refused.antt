@@ -1,0 +1,108 @@
+-- Each call's number is the first of `order` that applies: the record Refusals.
+use mathlib.Core.Path.{_≡_, refl, sym, _∙_, ap}
+use mathlib.Core.Bool.{_&&_, _||_, not}
+use mathlib.Core.List.{List, _++_}
+use mathlib.Core.Logic.{_↔_, _≢_}
+use Prim.Native.Nat.{ℕ, _+_, _-_, _^_, _≤_, _<_}
+use native.Mathlib.Omega.{arith}
+use native.Mathlib.Decide.{ℕ-discrete}
+use lib.Dec.{eqb, ltb, leb}
+use lib.ListN.{length}
+use borrow.Author.Tests.{ne-eqb}
+use Rattle.theory.specs.Words.{firstOf, when, marksOk, smallest, howMany, rank, wordOf}
+use Rattle.theory.specs.Strips.{admitted, window, markAt, placeOf, cursorOk}
+use Rattle.theory.specs.Plans.{shades, marks, sectionCount, sections, nthS, planFault, wordFault, torn, straightFrom, layingOf, distanceOf, lookupFault}
+use Rattle.theory.proofs.Rings.{one-place, admitted-range}
+use Rattle.theory.proofs.Laying as theory
+use Rattle.buffers.specs.Buffers.{putBe}
+use Rattle.calls.specs.Order.{given}
+use Rattle.calls.specs.Refusals.{theWordFault, indexFault, placeFault}
+use Rattle.calls.proofs.Order.{given-none, given-first}
+use Rattle.calls.proofs.Checks.{word-fine}
+use Rattle.cursors.specs.declared.Cursor as DC
+use Rattle.cursors.specs.Cursors.{cursorIn, tidy, cursorFault}
+use Rattle.demands.specs.Refused.{markRules, wordRules, placeRules, indexRules, cursorRules, planRules, layingRules, trayRules, Refusals}
+use Rattle.demands.proofs.Trays.{into-number, rotation-long, index-word-long}
+use Rattle.calls.proofs.Numbers.{strip-number, marks-number, word-number, place-number, cursor-number, plan-number, word-tray-number, place-tray-number, index-tray-number, laying-tray-number}
+
+-- the faults of each kind of argument, alone and with a tray of m bytes
+word-given : (k n : ℕ) (w : List ℕ) → theWordFault k n w ≡ given (wordRules k n w)
+word-given k n w = word-number (not (admitted k n)) (not (eqb (length w) n)) (not (marksOk k w))
+
+word-tray : (k n : ℕ) (w t : List ℕ) (m : ℕ) → firstOf (theWordFault k n w) (when (ltb (length t) m) 6) ≡ given (wordRules k n w ++ trayRules t m)
+word-tray k n w t m = word-tray-number (not (admitted k n)) (not (eqb (length w) n)) (not (marksOk k w)) (ltb (length t) m)
+
+place-given : (k n p : ℕ) → placeFault k n p ≡ given (placeRules k n p)
+place-given k n p = place-number (not (admitted k n)) (leb (k ^ n) p)
+
+place-tray : (k n p : ℕ) (t : List ℕ) (m : ℕ) → firstOf (placeFault k n p) (when (ltb (length t) m) 6) ≡ given (placeRules k n p ++ trayRules t m)
+place-tray k n p t m = place-tray-number (not (admitted k n)) (leb (k ^ n) p) (ltb (length t) m)
+
+index-tray : (k n i : ℕ) (t : List ℕ) (m : ℕ) → firstOf (indexFault k n i) (when (ltb (length t) m) 6) ≡ given (indexRules k n i ++ trayRules t m)
+index-tray k n i t m = index-tray-number (not (admitted k n)) (eqb i 0 || ltb (howMany k n) i) (ltb (length t) m)
+
+cursor-given : (c : DC.Cursor) → cursorFault c ≡ given (cursorRules c)
+cursor-given c = cursor-number (not (admitted (c .k) (c .n))) (not (tidy c && cursorOk (cursorIn c)))
+
+plan-given : (s : List ℕ) → planFault s ≡ given (planRules s)
+plan-given s = plan-number (torn s) (not (admitted (shades s) (marks s))) (not (straightFrom (marks s) (shades s ^ marks s) 0 (sections s)))
+
+marks-given : (k n : ℕ) (w : List ℕ) → wordFault k n w ≡ given (markRules k n w)
+marks-given k n w = marks-number (not (eqb (length w) n)) (not (marksOk k w))
+
+laying-tray : (s w t : List ℕ) (m : ℕ) → firstOf (lookupFault s w) (when (ltb (length t) m) 6) ≡ given (layingRules s w ++ trayRules t m)
+laying-tray s w t m =
+    laying-tray-number (torn s) (not (admitted (shades s) (marks s))) (not (straightFrom (marks s) (shades s ^ marks s) 0 (sections s)))
+    (not (eqb (length w) (marks s))) (not (marksOk (shades s) w)) (eqb (layingOf s w) 0) (ltb (length t) m)
+
+-- a window that is read nowhere inside a section
+not-laid : (s w : List ℕ) → given (planRules s) ≡ 0 → given (markRules (shades s) (marks s) w) ≡ 0
+    → (layingOf s w ≡ 0)
+    ↔ ((i d : ℕ) → i < sectionCount s → d + marks s ≤ nthS (sections s) i .long → window (shades s) (marks s) (nthS (sections s) i .offset + d) ≢ w)
+not-laid s w plan word = (into, out)
+  where
+    good : planFault s ≡ 0
+    good = plan-given s ∙ plan
+
+    fine : wordFault (shades s) (marks s) w ≡ 0
+    fine = marks-given (shades s) (marks s) w ∙ word
+
+    into : layingOf s w ≡ 0 → (i d : ℕ) → i < sectionCount s → d + marks s ≤ nthS (sections s) i .long
+        → window (shades s) (marks s) (nthS (sections s) i .offset + d) ≢ w
+    into z i d h fits e =
+        let (_, laying, _) = theory.laid s i d good h fits in
+        omega (arith, z, ap (layingOf s) (sym e) ∙ laying)
+
+    out : ((i d : ℕ) → i < sectionCount s → d + marks s ≤ nthS (sections s) i .long → window (shades s) (marks s) (nthS (sections s) i .offset + d) ≢ w)
+        → layingOf s w ≡ 0
+    out none = elim (ℕ-discrete (layingOf s w) 0) [ yes z ↦ z | no z ↦ absurd (somewhere z) ]
+      where
+        somewhere : ¬ (layingOf s w ≡ 0) → ⊥
+        somewhere z =
+            let looked : lookupFault s w ≡ 0 = rw (good, fine, ne-eqb (layingOf s w) 0 z) in
+            let (inside, place, fits) = theory.laid-only s w looked in
+            let (two, one) = admitted-range (shades s) (marks s) (theory.plan-good s good .1) in
+            let (long, letters) = word-fine (shades s) (marks s) w fine in
+            none (layingOf s w - 1) (distanceOf s w) inside fits (ap (window (shades s) (marks s)) place ∙ one-place .found (shades s) (marks s) w two one long letters .1)
+
+pub refusals : Refusals
+refusals = record {
+  none = given-none;
+  first = given-first;
+  is-lyndon = λ k n w r e. e .0 ∙ word-given k n w;
+  smallest-rotation = λ k n w t t′ r e. into-number n (theWordFault k n w) (smallest w) t t′ r (rotation-long k n w) e ∙ word-tray k n w t n;
+  shortest-root = λ k n w r e. e .0 ∙ word-given k n w;
+  lyndon-count = λ k n r e. e .0 ∙ strip-number (not (admitted k n));
+  rank-of = λ k n w t t′ r e. into-number 8 (theWordFault k n w) (putBe 8 (rank k w)) t t′ r (λ _. refl) e ∙ word-tray k n w t 8;
+  word-of = λ k n i t t′ r e. into-number n (indexFault k n i) (wordOf k n i) t t′ r (index-word-long k n i) e ∙ index-tray k n i t n;
+  mark-at = λ k n p t t′ r e. into-number 8 (placeFault k n p) (putBe 8 (markAt k n p)) t t′ r (λ _. refl) e ∙ place-tray k n p t 8;
+  place-of = λ k n w t t′ r e. into-number 8 (theWordFault k n w) (putBe 8 (placeOf k n w)) t t′ r (λ _. refl) e ∙ word-tray k n w t 8;
+  print-marks = λ k n p c t t′ r e. e .0 ∙ place-tray k n p t c;
+  check-plan = λ s r e. e ∙ plan-given s;
+  look-up = λ s w t t′ r e.
+      into-number 10 (lookupFault s w) (putBe 2 (layingOf s w - 1) ++ putBe 8 (distanceOf s w)) t t′ r (λ _. refl) e ∙ laying-tray s w t 10;
+  start-cursor = λ k n p r e. e .0 ∙ place-given k n p;
+  cursor-place = λ c r e. e .0 ∙ cursor-given c;
+  step = λ c r e. e .0 ∙ cursor-given c;
+  not-laid = not-laid;
+}

@@ -1,0 +1,102 @@
+-- Calls on words, down to the bytes: tests, rotations, roots, counts; ranks and words of an index undo each other.
+use mathlib.Core.Path.{_≡_, sym, _∙_, ap, ap₂, subst}
+use mathlib.Core.Bool.{true, false, false≢true}
+use mathlib.Core.List.{List}
+use mathlib.Core.Logic.{_⊎_, inl, inr, _↔_}
+use Prim.Native.Nat.{ℕ, _^_, _≤_, _<_}
+use native.Mathlib.Omega.{arith}
+use lib.ListN.{length, take}
+use lib.Seq.{take-at}
+use Rattle.theory.specs.Words.{pick, below, upTo, turned, isLyndon, smallest, leastTurn, repeated, powerTo, allWords, lyndons, howMany, rank, wordOf, marksOk}
+use Rattle.theory.specs.Strips.{admitted}
+use Rattle.theory.specs.Plans.{be}
+use Rattle.theory.proofs.AllWords.{all-count}
+use Rattle.theory.proofs.Counts.{keep-length}
+use Rattle.theory.proofs.Necklaces.{smallest-length}
+use Rattle.theory.proofs.Ranks.{undone}
+use Rattle.theory.proofs.Turns.{word-laws}
+use Rattle.theory.proofs.Base.{test}
+use Rattle.shape.proofs.Limits.{admitted-limits}
+use Rattle.buffers.specs.Buffers.{putBe, over}
+use Rattle.calls.specs.declared.Value as DV
+use Rattle.calls.specs.Refusals.{theWordFault, indexFault}
+use Rattle.words.specs.Says.{LyndonSays, RotationSays, RootSays, ManySays, RankSays, WordSays}
+use Rattle.demands.proofs.Faults.{strip-faultless, word-faultless, index-faultless}
+use Rattle.demands.proofs.Trays.{into-fine, number-fine, tray-back, small, value-fine}
+
+many-small : (k n : ℕ) → howMany k n ≤ k ^ n
+many-small k n = omega (arith, keep-length isLyndon (allWords k n), all-count k n)
+
+rank-small : (k : ℕ) (w : List ℕ) → rank k w ≤ howMany k (length w)
+rank-small k w = keep-length (λ u. upTo u w) (lyndons k (length w))
+
+-- a word of n marks on an admitted strip
+module _ (k n : ℕ) (w : List ℕ) (a : admitted k n ≡ true) (e : length w ≡ n) (m : marksOk k w ≡ true) where
+  fine : theWordFault k n w ≡ 0
+  fine = word-faultless k n w a e m
+
+  pub lyndon : (r : DV.Value) → LyndonSays k n w r
+      → (r .number ≡ 0) × (r .value ≤ 1) × ((r .value ≡ 1) ↔ ((i : ℕ) → 1 ≤ i → i < n → below w (turned i w) ≡ true))
+  lyndon r f = let (number, value) = value-fine fine f in told number value (test (isLyndon w))
+    where
+      told : r .number ≡ 0 → r .value ≡ pick (isLyndon w) 1 0 → (isLyndon w ≡ true) ⊎ (isLyndon w ≡ false)
+          → (r .number ≡ 0) × (r .value ≤ 1) × ((r .value ≡ 1) ↔ ((i : ℕ) → 1 ≤ i → i < n → below w (turned i w) ≡ true))
+      told number value (inl t) =
+          let one : r .value ≡ 1 = value ∙ ap (λ b. pick {A = ℕ} b 1 0) t in
+          (number, omega arith, (λ _ i x y. word-laws .lyndon-turns w .0 t .1 i x (omega arith), λ _. one))
+      told number value (inr t) =
+          let none : r .value ≡ 0 = value ∙ ap (λ b. pick {A = ℕ} b 1 0) t in
+          (number, omega arith, (λ one. absurd (omega arith), λ g. absurd (false≢true (sym t ∙ word-laws .lyndon-turns w .1 (omega (arith, admitted-limits k n a .some), λ i x y. g i x (omega arith))))))
+
+  pub rotation : (t t′ : List ℕ) (r : ℕ) → n ≤ length t → RotationSays k n w t t′ r
+      → (r ≡ 0) × (take n t′ ≡ turned (leastTurn w) w) × ((i : ℕ) → upTo (take n t′) (turned i w) ≡ true)
+  rotation t t′ r x f =
+      let long : length (smallest w) ≡ n = smallest-length w ∙ e in
+      let turned-it = into-fine (theWordFault k n w) (smallest w) t fine (omega (arith, long)) f in
+      let is : take n t′ ≡ smallest w = ap (take n) (turned-it .1) ∙ take-at (smallest w) _ n long in
+      (turned-it .0, is ∙ sym (word-laws .turns .reaches w), λ i. ap (λ u. upTo u (turned i w)) is ∙ word-laws .smallest-least w i)
+
+  pub root-told : (r : DV.Value) → RootSays k n w r
+      → (r .number ≡ 0) × (1 ≤ r .value) × (powerTo n (take (r .value) w) ≡ w) × ((u : List ℕ) (d : ℕ) → w ≡ repeated d u → r .value ≤ length u)
+  root-told r f =
+      let (number, value) = value-fine fine f in
+      let some : 1 ≤ length w = omega (arith, e, admitted-limits k n a .some) in (
+        number,
+        omega (arith, value, word-laws .root-some w some .0),
+        ap₂ (λ m d. powerTo m (take d w)) (sym e) value ∙ word-laws .root-repeats w some,
+        λ u d h. omega (arith, value, word-laws .root-least w u d some h),
+      )
+
+  pub ranked : (t t′ : List ℕ) (r : ℕ) → 8 ≤ length t → RankSays k n w t t′ r → (r ≡ 0) × (t′ ≡ over (putBe 8 (rank k w)) t) × (be 0 8 t′ ≡ rank k w)
+  ranked t t′ r x f =
+      let found = number-fine (theWordFault k n w) (rank k w) t fine x f in
+      let most : rank k w ≤ howMany k n = subst (λ i. rank k w ≤ howMany k i) e (rank-small k w) in
+      (found .0, found .1, tray-back (rank k w) t (small k n a (omega (arith, most, many-small k n))) (found .1))
+
+pub count : (k n : ℕ) (r : DV.Value) → admitted k n ≡ true → ManySays k n r → (r .number ≡ 0) × (r .value ≡ howMany k n)
+count k n r a f = value-fine (strip-faultless k n a) f
+
+pub unranked : (k n i : ℕ) (t t′ : List ℕ) (r : ℕ) → admitted k n ≡ true → 1 ≤ i → i ≤ howMany k n → n ≤ length t → WordSays k n i t t′ r
+    → (r ≡ 0) × (t′ ≡ over (wordOf k n i) t)
+unranked k n i t t′ r a b c x f =
+    let (long, _, _) = undone .index-word k n i b c in
+    into-fine (indexFault k n i) (wordOf k n i) t (index-faultless k n i a b c) (omega (arith, long)) f
+
+pub word-back : (k n : ℕ) (w t t′ u u′ : List ℕ) (r q : ℕ) → admitted k n ≡ true → length w ≡ n → marksOk k w ≡ true → isLyndon w ≡ true
+    → 8 ≤ length t → n ≤ length u → RankSays k n w t t′ r → WordSays k n (be 0 8 t′) u u′ q → (r ≡ 0) × (q ≡ 0) × (u′ ≡ over w u)
+word-back k n w t t′ u u′ r q a e m l x y f g =
+    let (fine, _, told) = ranked k n w a e m t t′ r x f in
+    let (one, most) = undone .rank-range k w m l in
+    let most′ : rank k w ≤ howMany k n = subst (λ i. rank k w ≤ howMany k i) e most in
+    let word : wordOf k n (rank k w) ≡ w = ap (λ i. wordOf k i (rank k w)) (sym e) ∙ undone .of-word k w m l in
+    let found = unranked k n (rank k w) u u′ q a one most′ y (subst (λ i. WordSays k n i u u′ q) told g) in
+    (fine, found .0, found .1 ∙ ap (λ x. over x u) word)
+
+pub rank-back : (k n i : ℕ) (t t′ u u′ : List ℕ) (r q : ℕ) → admitted k n ≡ true → 1 ≤ i → i ≤ howMany k n
+    → n ≤ length t → 8 ≤ length u → WordSays k n i t t′ r → RankSays k n (take n t′) u u′ q → (r ≡ 0) × (q ≡ 0) × (be 0 8 u′ ≡ i)
+rank-back k n i t t′ u u′ r q a b c x y f g =
+    let (e, m, _) = undone .index-word k n i b c in
+    let found = unranked k n i t t′ r a b c x f in
+    let word : take n t′ ≡ wordOf k n i = ap (take n) (found .1) ∙ take-at (wordOf k n i) _ n e in
+    let (fine, _, told) = ranked k n (wordOf k n i) a e m u u′ q y (subst (λ w. RankSays k n w u u′ q) word g) in
+    (found .0, fine, told ∙ undone .of-index k n i b c)

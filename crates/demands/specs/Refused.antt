@@ -1,0 +1,77 @@
+-- Which refusals each call knows, and when each applies: its number is the first of `order` that does, and 0 just when none does.
+-- A call's promise (its Says) stands as a premise.
+use mathlib.Core.Path.{_≡_}
+use mathlib.Core.Bool.{true, false, _&&_, _||_, not}
+use mathlib.Core.List.{List, [], _∷_, _++_}
+use mathlib.Core.Logic.{_↔_, _≢_}
+use Prim.Native.Nat.{ℕ, _+_, _^_, _≤_, _<_}
+use lib.Dec.{eqb, ltb, leb}
+use lib.ListN.{length}
+use Rattle.theory.specs.Words.{howMany, marksOk}
+use Rattle.theory.specs.Lists.{In}
+use Rattle.theory.specs.Strips.{admitted, window, cursorOk}
+use Rattle.theory.specs.Plans.{shades, marks, sectionCount, sections, nthS, torn, straightFrom, layingOf}
+use Rattle.calls.specs.declared.Value as DV
+use Rattle.calls.specs.Order.{order, Rule, rule, appliesIn, given}
+use Rattle.words.specs.Says.{LyndonSays, RotationSays, RootSays, ManySays, RankSays, WordSays}
+use Rattle.marks.specs.Says.{MarkSays, PlaceSays, PrintSays}
+use Rattle.lookups.specs.Says.{PlanSays, LookupSays}
+use Rattle.cursors.specs.declared.Cursor as DC
+use Rattle.cursors.specs.declared.Started as DS
+use Rattle.cursors.specs.declared.Stepped as DT
+use Rattle.cursors.specs.Cursors.{cursorIn, tidy, StartSays, WhereSays, StepSays}
+
+-- no such strip; wrong window, bad mark; off the strip; no such word; lost cursor
+abbrev pub stripRules : ℕ → ℕ → List Rule
+stripRules k n = rule 1 (not (admitted k n)) ∷ []
+
+abbrev pub markRules : ℕ → ℕ → List ℕ → List Rule
+markRules k n w = rule 2 (not (eqb (length w) n)) ∷ rule 3 (not (marksOk k w)) ∷ []
+
+abbrev pub wordRules : ℕ → ℕ → List ℕ → List Rule
+wordRules k n w = stripRules k n ++ markRules k n w
+
+abbrev pub placeRules : ℕ → ℕ → ℕ → List Rule
+placeRules k n p = stripRules k n ++ (rule 4 (leb (k ^ n) p) ∷ [])
+
+abbrev pub indexRules : ℕ → ℕ → ℕ → List Rule
+indexRules k n i = stripRules k n ++ (rule 5 (eqb i 0 || ltb (howMany k n) i) ∷ [])
+
+abbrev pub cursorRules : DC.Cursor → List Rule
+cursorRules c = stripRules (c .k) (c .n) ++ (rule 10 (not (tidy c && cursorOk (cursorIn c))) ∷ [])
+
+-- torn plan, no such strip, crooked plan; and for a window in it, not laid
+abbrev pub planRules : List ℕ → List Rule
+planRules s = rule 7 (torn s) ∷ rule 1 (not (admitted (shades s) (marks s))) ∷ rule 8 (not (straightFrom (marks s) (shades s ^ marks s) 0 (sections s))) ∷ []
+
+abbrev pub layingRules : List ℕ → List ℕ → List Rule
+layingRules s w = planRules s ++ (markRules (shades s) (marks s) w ++ (rule 9 (eqb (layingOf s w) 0) ∷ []))
+
+-- tray too small for b bytes
+abbrev pub trayRules : List ℕ → ℕ → List Rule
+trayRules t b = rule 6 (ltb (length t) b) ∷ []
+
+pub record Refusals : Type 0 where
+  -- what `given` means: 0 just when nothing applies, a number just when it applies and none before it in the order does
+  pub none : (rules : List Rule) → (given rules ≡ 0) ↔ ((f : ℕ) → In f order → appliesIn f rules ≡ false)
+  pub first : (rules : List Rule) (before after : List ℕ) (f : ℕ) → order ≡ before ++ (f ∷ after)
+      → (given rules ≡ f) ↔ ((appliesIn f rules ≡ true) × ((g : ℕ) → In g before → appliesIn g rules ≡ false))
+  -- each call
+  pub is-lyndon : (k n : ℕ) (w : List ℕ) (r : DV.Value) → LyndonSays k n w r → r .number ≡ given (wordRules k n w)
+  pub smallest-rotation : (k n : ℕ) (w t t′ : List ℕ) (r : ℕ) → RotationSays k n w t t′ r → r ≡ given (wordRules k n w ++ trayRules t n)
+  pub shortest-root : (k n : ℕ) (w : List ℕ) (r : DV.Value) → RootSays k n w r → r .number ≡ given (wordRules k n w)
+  pub lyndon-count : (k n : ℕ) (r : DV.Value) → ManySays k n r → r .number ≡ given (stripRules k n)
+  pub rank-of : (k n : ℕ) (w t t′ : List ℕ) (r : ℕ) → RankSays k n w t t′ r → r ≡ given (wordRules k n w ++ trayRules t 8)
+  pub word-of : (k n i : ℕ) (t t′ : List ℕ) (r : ℕ) → WordSays k n i t t′ r → r ≡ given (indexRules k n i ++ trayRules t n)
+  pub mark-at : (k n p : ℕ) (t t′ : List ℕ) (r : ℕ) → MarkSays k n p t t′ r → r ≡ given (placeRules k n p ++ trayRules t 8)
+  pub place-of : (k n : ℕ) (w t t′ : List ℕ) (r : ℕ) → PlaceSays k n w t t′ r → r ≡ given (wordRules k n w ++ trayRules t 8)
+  pub print-marks : (k n p c : ℕ) (t t′ : List ℕ) (r : ℕ) → PrintSays k n p c t t′ r → r ≡ given (placeRules k n p ++ trayRules t c)
+  pub check-plan : (s : List ℕ) (r : ℕ) → PlanSays s r → r ≡ given (planRules s)
+  pub look-up : (s w t t′ : List ℕ) (r : ℕ) → LookupSays s w t t′ r → r ≡ given (layingRules s w ++ trayRules t 10)
+  pub start-cursor : (k n p : ℕ) (r : DS.Started) → StartSays k n p r → r .number ≡ given (placeRules k n p)
+  pub cursor-place : (c : DC.Cursor) (r : DV.Value) → WhereSays c r → r .number ≡ given (cursorRules c)
+  pub step : (c : DC.Cursor) (r : DT.Stepped) → StepSays c r → r .number ≡ given (cursorRules c)
+  -- 9 applies just when the window, without fault itself, is read nowhere wholly inside a section of the accepted plan
+  pub not-laid : (s w : List ℕ) → given (planRules s) ≡ 0 → given (markRules (shades s) (marks s) w) ≡ 0
+      → (layingOf s w ≡ 0)
+      ↔ ((i d : ℕ) → i < sectionCount s → d + marks s ≤ nthS (sections s) i .long → window (shades s) (marks s) (nthS (sections s) i .offset + d) ≢ w)

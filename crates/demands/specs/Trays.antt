@@ -1,0 +1,22 @@
+-- What every call leaves in the tray that it is lent: the bytes of an answer stand over its start; all else stays.
+use mathlib.Core.Path.{_≡_}
+use mathlib.Core.List.{List}
+use mathlib.Core.Logic.{_≢_}
+use Prim.Native.Nat.{ℕ}
+use lib.ListN.{length, drop}
+use Rattle.words.specs.Says.{RotationSays, RankSays, WordSays}
+use Rattle.marks.specs.Says.{MarkSays, PlaceSays, PrintSays}
+use Rattle.lookups.specs.Says.{LookupSays}
+
+-- with an answer of b bytes: a refusal leaves the tray as it was, its length never changes, and the bytes after the first b stay
+abbrev pub Keeps : ℕ → List ℕ → List ℕ → ℕ → Type 0
+Keeps b t t′ r = (r ≢ 0 → t′ ≡ t) × (length t′ ≡ length t) × (drop b t′ ≡ drop b t)
+
+pub record Trays : Type 0 where
+  pub smallest-rotation : (k n : ℕ) (w t t′ : List ℕ) (r : ℕ) → RotationSays k n w t t′ r → Keeps n t t′ r
+  pub rank-of : (k n : ℕ) (w t t′ : List ℕ) (r : ℕ) → RankSays k n w t t′ r → Keeps 8 t t′ r
+  pub word-of : (k n i : ℕ) (t t′ : List ℕ) (r : ℕ) → WordSays k n i t t′ r → Keeps n t t′ r
+  pub mark-at : (k n p : ℕ) (t t′ : List ℕ) (r : ℕ) → MarkSays k n p t t′ r → Keeps 8 t t′ r
+  pub place-of : (k n : ℕ) (w t t′ : List ℕ) (r : ℕ) → PlaceSays k n w t t′ r → Keeps 8 t t′ r
+  pub print-marks : (k n p c : ℕ) (t t′ : List ℕ) (r : ℕ) → PrintSays k n p c t t′ r → Keeps c t t′ r
+  pub look-up : (s w t t′ : List ℕ) (r : ℕ) → LookupSays s w t t′ r → Keeps 10 t t′ r
