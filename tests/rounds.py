@@ -1,39 +1,51 @@
 #!/usr/bin/env python3
 """What the program `rounds` must print: 80 steps along a strip, by the rules and not by the library, and the same marks in a row."""
-from model import Counted, mark_at, next_lyndon, place_fault
+import sys
+from itertools import cycle, islice
+
+from model import ENDS_5, LENGTH_5, Counted, cursor_start, cursor_step, letters, mark_at, place_fault
 
 STEPS = 80
+LIST_5 = (2, 5, 0)  # the walk along document 003's list of length 5
 WALKS = (
-    (2, 6, 0), (2, 6, 63), (3, 4, 40), (4, 1, 3), (36, 2, 1290),
+    LIST_5, (2, 6, 0), (2, 6, 63), (3, 4, 40), (4, 1, 3), (36, 2, 1290),
     (2, 60, 0), (2, 60, 1152921504606846970), (2, 60, 123456789012345678), (2, 60, 1000000000000000003),
     (10, 18, 314159265358979323), (36, 11, 98765432109876543), (2, 6, 64), (2, 61, 0),
 )
 
 
-def following(k, n, word):
-    """The strip's next word, and how many Lyndon words the step to it passes: none at the wrap."""
-    passed = 0
-    while True:
-        word, passed = next_lyndon(k, n, word), passed + 1
-        if word is None:
-            return (0,), 0
-        if n % len(word) == 0:
-            return word, passed
+def by_the_rule(k, n, place):
+    """Mark and words passed of each step."""
+    strip = Counted(k, n)
+    word, at = strip.word_at(place)
+    for _ in range(STEPS):
+        mark, at, passed = word[at], at + 1, 0
+        if at == len(word):
+            (word, passed), at = strip.following(word), 0
+        yield mark, passed
+
+
+def by_the_list():
+    """The same from the start of (2, 5), by document 003's list alone: the strip has those of its words whose length divides 5, and a
+    step from one of them to the next passes as many words as the list goes on; none at the wrap."""
+    on_strip = [i for i, end in enumerate(ENDS_5) if 5 % end == 0]
+    round_once = []
+    for here, following in zip(on_strip, on_strip[1:] + [None]):
+        *marks, last = letters(LENGTH_5[here])[:ENDS_5[here]]
+        round_once += [(mark, 0) for mark in marks]
+        round_once.append((last, 0 if following is None else following - here))
+    return list(islice(cycle(round_once), STEPS))
 
 
 def steps(k, n, place):
-    """Place, mark and words passed of each step; all 0 if the start is refused."""
+    """Place, number, mark and words passed of each step. A refused start gives a cursor of zeros, and each step of that is refused."""
     if place_fault(k, n, place):
-        yield from ((0, 0, 0) for _ in range(STEPS))
-        return
-    word, end = Counted(k, n).holder(place)
-    at = len(word) - (end - place)
-    for i in range(STEPS):
-        here, mark = (place + i) % k**n, word[at]
-        at, passed = at + 1, 0
-        if at == len(word):
-            (word, passed), at = following(k, n, word), 0
-        yield here, mark, passed
+        _, zeros = cursor_start(k, n, place)
+        return [(0,) + cursor_step(zeros)[:3]] * STEPS
+    walked = list(by_the_rule(k, n, place))
+    if (k, n, place) == LIST_5 and by_the_list() != walked:
+        sys.exit("rounds: the list of length 5 and the rule differ: %s, %s" % (by_the_list(), walked))
+    return [((place + i) % k**n, 0) + step for i, step in enumerate(walked)]
 
 
 def told(k, n, place):
@@ -44,12 +56,12 @@ def told(k, n, place):
 
 def main():
     for k, n, place in WALKS:
-        print(k, n, place, place_fault(k, n, place))
-        walked = list(steps(k, n, place))
-        for here, mark, passed in walked:
-            print(here, mark, passed, told(k, n, here))
         refused = place_fault(k, n, place)
-        print("".join("%d " % (255 if refused else mark) for _, mark, _ in walked))
+        print(k, n, place, refused)
+        walked = steps(k, n, place)
+        for here, number, mark, passed in walked:
+            print(here, number, mark, passed, told(k, n, here))
+        print("".join("%d " % (255 if refused else mark) for _, _, mark, _ in walked))
 
 
 if __name__ == "__main__":

@@ -1,6 +1,7 @@
-// Walks cursors along strips, over the end too, and prints for each step its place, its mark, the words passed and what mark_at tells; then the same marks as
-// print_marks gives them.
+// Walks cursors along strips, over the end too, and prints for each step its place, its number, its mark, the words passed and what mark_at tells; then the same
+// marks as print_marks gives them.
 use cursors::Cursor;
+use cursors::Stepped;
 
 // A number in decimal.
 fn number(v: u64) {
@@ -35,11 +36,21 @@ fn mark(k: u64, n: u64, place: u64) -> u8 {
     tray[7]
 }
 
+// The step of a turn: by the method and by the function, in turn.
+fn moved(c: Cursor, turn: u64) -> Stepped {
+    if turn % 2 == 0 {
+        return c.step();
+    }
+    cursors::step_cursor(c)
+}
+
 // One step, printed.
-fn step(k: u64, n: u64, c: Cursor) -> Cursor {
+fn step(k: u64, n: u64, c: Cursor, turn: u64) -> Cursor {
     let at = cursors::cursor_place(c);
-    let stepped = c.step();
+    let stepped = moved(c, turn);
     field(at.value);
+    letter(stepped.number);
+    space();
     letter(stepped.mark);
     space();
     field(stepped.passed);
@@ -59,7 +70,7 @@ fn walk(k: u64, n: u64, place: u64, count: u64) {
     let mut at = started.cursor;
     let mut i = 0;
     while i < count {
-        at = step(k, n, at);
+        at = step(k, n, at, i);
         i += 1;
     }
 }
@@ -85,6 +96,7 @@ fn both(k: u64, n: u64, place: u64) {
 
 // The walks of tests/rounds.py, in their order.
 fn main() {
+    both(2, 5, 0);
     both(2, 6, 0);
     both(2, 6, 63);
     both(3, 4, 40);
