@@ -1,8 +1,8 @@
 #!/usr/bin/env python3
 """Compares the numbers, names and order of the refusals wherever they are written.
 
-The constants of refusals.rt, with the order in its comment, are the reference. C leaves out the numbers of which strip.h says that no call
-there gives them. Prints one line if all agree; else a line for each place that differs, or in which nothing is found to compare.
+The constants of refusals.rt and the definition `order` of Order.antt are the reference. C leaves out the numbers of which strip.h says that
+no call there gives them. Prints one line if all agree; else a line for each place that differs, or in which nothing is found to compare.
 """
 import re
 import sys
@@ -12,7 +12,7 @@ import model
 
 ROOT = Path(__file__).resolve().parent.parent
 SOURCE = "crates/calls/src/refusals.rt"
-SPECS = "crates/calls/specs/Refusals.antt"
+SPECS = "crates/calls/specs/Order.antt"
 HEADER = "include/strip.h"
 README = "README.md"
 MODEL = "tests/model.py"
@@ -43,6 +43,12 @@ def order_in(file):
     return numbers(found[1]) if found else []
 
 
+def order_defined():
+    """The list that is the definition `order`."""
+    found = re.search(r"^order\s*=\s*((?:\d+\s*∷\s*)+)\[\]\s*$", text_of(SPECS), re.M)
+    return numbers(found[1]) if found else []
+
+
 def spoken(name):
     """NO_SUCH_STRIP as it is written in a text."""
     return name.lower().replace("_", " ")
@@ -63,9 +69,9 @@ def reference():
     """Names by number, and the order."""
     pairs = re.findall(r"pub const ([A-Z_]+): u8 = (\d+);", text_of(SOURCE))
     names = {int(number): name for name, number in pairs}
-    order = order_in(SOURCE)
+    order = order_defined()
     same(SOURCE, "numbers", sorted(int(number) for _, number in pairs), sorted(names))
-    same(SOURCE, "numbers in its order", sorted(order), sorted(names))
+    same(SPECS, "numbers in the definition `order`", sorted(order), sorted(names))
     return names, order
 
 
@@ -108,7 +114,7 @@ def check_examples(names):
 
 def main():
     names, order = reference()
-    same(SPECS, "order", order_in(SPECS), order)
+    same(SOURCE, "order", order_in(SOURCE), order)
     check_header(names, order)
     check_readme(names, order)
     check_tests(order)

@@ -1,4 +1,4 @@
--- The numbers that a call gives back, and their order: 7, 1, 8, 10, 2, 3, 4, 5, 9, 6. Each call takes the first that applies.
+-- The numbers that a call gives back. Each call takes the first that applies, in the one order (Order).
 -- The faults of a plan and of a lookup (7, 8, 9) stand in theory's Plans, of which theorems speak; that of a cursor (10) in cursors, of whose bytes it
 -- speaks; 6 is part of the form of an answer (Answers).
 use mathlib.Core.Bool.{_||_}
