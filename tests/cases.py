@@ -1,7 +1,7 @@
 #!/usr/bin/env python3
 """What the program `cases` must print, by the model of the rules."""
 import model
-from model import Counted, admitted, is_lyndon, rank_of, root_length, smallest_rotation, word_fault
+from model import lyndon_count, lyndon_test, rank_of, rotation_of, shortest_root
 
 
 def digits(word):
@@ -28,14 +28,14 @@ def words(k, n, last):
 
 
 def count(k, n):
-    print("count", k, n, *((0, Counted(k, n).count()) if admitted(k, n) else (1, 0)))
+    print("count", k, n, *lyndon_count(k, n))
 
 
 def tests(k, n, word):
-    fault = word_fault(k, n, word)
-    print("lyndon", k, n, digits(word), fault, 0 if fault else int(is_lyndon(word)))
-    print("root", k, n, digits(word), fault, 0 if fault else root_length(word))
-    print("rotation", k, n, digits(word), fault, digits(into([7] * 8, [] if fault else list(smallest_rotation(word)))))
+    print("lyndon", k, n, digits(word), *lyndon_test(k, n, word))
+    print("root", k, n, digits(word), *shortest_root(k, n, word))
+    fault, answer = rotation_of(k, n, word)
+    print("rotation", k, n, digits(word), fault, digits(into([7] * 8, list(answer))))
 
 
 def main():

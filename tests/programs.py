@@ -1,268 +1,22 @@
 #!/usr/bin/env python3
-"""Runs the built programs on the inputs made here and compares every byte that they write with the model of the rules.
+"""Runs the built programs on the inputs made for them and compares every byte that they write with the model of the rules.
 
     programs.py FOLDER      runs FOLDER/NAME for each program of the table PROGRAMS
     programs.py --names     prints the names of the programs
-    programs.py --sample    prints the listing of the sample plan
 """
-import random
 import subprocess
 import sys
-from itertools import combinations_with_replacement, product
 from pathlib import Path
 
-import model
-from model import LARGE, MOST_MARKS, MOST_SECTIONS, MOST_SHADES, admitted, plan_bytes, small_strips
-from vectors import bent, random_sections, spread, torn
+import replies
+import stripwalk
 
+CRATES = Path(__file__).resolve().parent.parent / "crates"
 
-# Plans with a name
-
-SAMPLE = plan_bytes(2, 4, [(0, 6), (8, 8)])
-
-
-def many(k, n, count):
-    """Sections of several lengths, some of them apart, the last up to the end."""
-    pairs, place = [], 0
-    for i in range(count - 1):
-        place += i * 7 % 101
-        pairs.append((place, n + i * i % 43))
-        place += n + i * i % 43
-    return pairs + [(place, k ** n - place)]
-
-
-def shades():
-    """Windows that begin with each shade."""
-    k, n = 36, 11
-    starts = [0, 11, 25, 500] + [k ** n - (k - a) ** n + 3 * a for a in range(1, 35)] + [k ** n - 1000, k ** n - 23, k ** n - 11]
-    return plan_bytes(k, n, [(start, n) for start in starts])
-
-
-def ends():
-    k, n = 2, 60
-    size = k ** n
-    return plan_bytes(k, n, [(0, n), (n, n + 1), (1000, size // 2), (size - 2000, 70), (size - 500, 300), (size - 121, n), (size - n, n)])
-
-
-def named_plans():
-    full = plan_bytes(6, 6, many(6, 6, MOST_SECTIONS))
-    return {
-        "sample": SAMPLE,
-        "empty": b"",
-        "none": plan_bytes(10, 18, []),
-        "full": full,
-        "torn": SAMPLE + b"\0",
-        "long": full + b"\0",
-        "strip": plan_bytes(2, 61, [(0, 3)]),
-        "crooked": plan_bytes(2, 4, [(0, 8), (7, 5)]),
-        "shades": shades(),
-        "end": ends(),
-    }
-
-
-# Plans on small strips
-
-SMALL = ((2, 1), (2, 2), (2, 3), (3, 2), (2, 4))
-
-
-def every_window():
-    """Sections of n marks side by side, from each of the first n places: together they begin wherever a section may."""
-    for k, n in small_strips(1000):
-        for shift in range(n):
-            yield plan_bytes(k, n, [(start, n) for start in range(shift, k**n - n + 1, n)])
-
-
-def one_section():
-    """Every offset and every length, up to one behind the strip."""
-    for k, n in SMALL:
-        for section in product(range(k**n + 2), repeat=2):
-            yield plan_bytes(k, n, [section])
-
-
-def two_sections():
-    """The second overlaps the first, touches it, stands apart or comes before it; either may be too short or end behind the strip."""
-    for k, n in SMALL:
-        places = k**n
-        for first in ((0, n - 1), (0, n), (1, n), (0, places - n), (places - n, n), (places - n + 1, n)):
-            end = sum(first)
-            for offset in sorted({0, end - 1, end, end + 1, places - n, places} - {-1}):
-                for length in sorted({n - 1, n, max(0, places - offset), max(0, places - offset) + 1}):
-                    yield plan_bytes(k, n, [first, (offset, length)])
-
-
-def two_good_sections():
-    """Every accepted plan of two sections on strips of up to 9 places."""
-    for k, n in SMALL[:4]:
-        for start, end, later, last in combinations_with_replacement(range(k**n + 1), 4):
-            if end - start >= n and last - later >= n:
-                yield plan_bytes(k, n, [(start, end - start), (later, last - later)])
-
-
-def mutated(record, chance):
-    """A record with one change: in a byte, in how many there are, or in a section."""
-    record, kind = bytearray(record), chance.randrange(6)
-    at = chance.randrange(len(record))
-    pair = slice(4 + 16 * (at // 16), 20 + 16 * (at // 16))
-    moved = record[pair]
-    if kind == 0:
-        record[at] = chance.randrange(256)
-    elif kind == 1:
-        record[at] ^= 1 << chance.randrange(8)
-    elif kind == 2:
-        record.insert(at, chance.randrange(256))
-    elif kind == 3:
-        record[at:at + 1] = b""
-    elif kind == 4:
-        record[pair] = moved[8:] + moved[:8]  # offset and length exchanged
-    else:
-        record[pair] = b""
-        record += moved  # the section put last
-    return bytes(record)
-
-
-def random_plans(chance):
-    """Good plans; the same with one number moved a little, and with one to three mutations."""
-    strips = small_strips(300)
-    for _ in range(60):
-        k, n = chance.choice(strips)
-        sections = random_sections(k**n, n, chance.randint(0, 6), chance)
-        plan = plan_bytes(k, n, sections)
-        yield plan
-        yield plan_bytes(k, n, bent(sections, n, chance))
-        for _ in range(3):
-            plan = mutated(plan, chance)
-            yield plan
-
-
-# Lengths and counts of records
-
-def recounted(record, count):
-    return record[:2] + count.to_bytes(2, "big") + record[4:]
-
-
-def every_length(chance):
-    """Beginnings of a good plan, and junk: as they are, and with the count that fits, or nearly."""
-    good = plan_bytes(3, 3, [(0, 3), (3, 5), (9, 4), (20, 7)])
-    for size in range(61):
-        for record in (good[:size], chance.randbytes(size)):
-            yield record
-            if size >= 4:
-                yield recounted(record, (size - 4) // 16)
-                yield recounted(record, (size + 11) // 16)
-
-
-def counts():
-    """Up to the most sections, one more, and counts of which both bytes matter; whole and torn."""
-    k, n = 36, 2
-    for count in (0, 1, 2, 255, 256, 257, 499, 500, 501, 512):
-        plan = plan_bytes(k, n, [(n * i, n) for i in range(count)])
-        yield plan
-        yield from torn(plan)
-
-
-def one_moved():
-    """500 sections that touch, up to the strip's end; then one of them begins earlier or later, or is shorter or longer."""
-    k, n = 36, 2
-    first = k**n - n * MOST_SECTIONS
-    for at, (later, longer) in product((0, 1, 255, 256, 498, 499), ((0, 0), (-1, 0), (1, 0), (0, -1), (0, 1), (-1, 1), (1, -1))):
-        sections = [(first + n * i, n) for i in range(MOST_SECTIONS)]
-        sections[at] = (first + n * at + later, n + longer)
-        yield plan_bytes(k, n, sections)
-
-
-def longer_than_the_buffer():
-    """stripwalk reads 65,536 bytes at most; a record that goes on behind them is torn all the same."""
-    full = plan_bytes(36, 2, [(2 * i, 2) for i in range(MOST_SECTIONS)])
-    for size in (65535, 65536, 65537, 65536 + len(full), 200000):
-        yield full.ljust(size, b"\0")
-        yield (full * 25)[:size]
-    for count in (4095, 4096, 65535):
-        yield plan_bytes(36, 2, [(2 * i, 2) for i in range(count)])
-
-
-# Refusals
-
-def refusals_together():
-    """7, 1 and 8, alone and together."""
-    for k, n in ((2, 4), (1, 4), (2, 0), (2, 61), (37, 1)):
-        for sections in ([(0, 6), (8, 8)], [(0, 6), (5, 8)], []):
-            plan = plan_bytes(k, n, sections)
-            yield plan
-            yield from torn(plan)
-
-
-def limits_of_strips():
-    """For each n the most shades and one more; bytes that are no k or no n."""
-    for n in range(1, MOST_MARKS + 1):
-        most = max(k for k in range(2, MOST_SHADES + 1) if admitted(k, n))
-        for k in (most, most + 1):
-            yield plan_bytes(k, n, [(0, n), (min(k**n, 2**64) - n, n)])
-    for k, n in product((0, 1, 2, 36, 37, 128, 255), (0, 1, 11, 12, 60, 61, 128, 255)):
-        yield plan_bytes(k, n, [(0, n)])
-        yield plan_bytes(k, n, [])
-
-
-def huge_numbers():
-    """Numbers up to 2^64 - 1, and ends that in 64 bits would be places of the strip again."""
-    top = 2**64
-    for k, n in ((2, 4), (2, 60)):
-        places = k**n
-        for section in product((0, n, places - n, places, 2**60, 2**63, top - places, top - n, top - 1), repeat=2):
-            yield plan_bytes(k, n, [section])
-        for short, end in product((1, n, places), (0, n, places)):
-            section = (top - short, short + end)
-            yield plan_bytes(k, n, [section])
-            yield plan_bytes(k, n, [(0, n), section])
-            yield plan_bytes(k, n, [section, (end, n)])
-
-
-# Large strips
-
-def large_strips(chance):
-    """Sections at the start, in the middle and at the end."""
-    for k, n in LARGE:
-        places = k**n
-        half = places // 2
-        yield plan_bytes(k, n, [(0, n), (half, n), (places - n, n)])
-        yield plan_bytes(k, n, [(0, half), (half, places - half)])
-        yield plan_bytes(k, n, [(half - n, n), (half - 1, n)])
-        yield plan_bytes(k, n, [(0, places)])
-        yield plan_bytes(k, n, [(0, places + 1)])
-        yield plan_bytes(k, n, [(places - n + 1, n)])
-        yield plan_bytes(k, n, random_sections(places, n, 4, chance))
-        yield plan_bytes(k, n, spread(places, n, 6, chance))
-
-
-# The programs, each with its inputs: a label, the input, and what must be written for it
-
-def listings():
-    """Plans, each once, with the listing that stripwalk must print."""
-    chance = random.Random(20261115)
-    kinds = {
-        "every window": every_window(),
-        "one section": one_section(),
-        "two sections": two_sections(),
-        "two good sections": two_good_sections(),
-        "random plan": random_plans(chance),
-        "length": every_length(chance),
-        "count": counts(),
-        "one moved": one_moved(),
-        "longer than the buffer": longer_than_the_buffer(),
-        "refusals": refusals_together(),
-        "limit of a strip": limits_of_strips(),
-        "huge number": huge_numbers(),
-        "large strip": large_strips(chance),
-    }
-    labelled = {plan: name for name, plan in named_plans().items()}
-    for kind, plans in kinds.items():
-        for i, plan in enumerate(plans):
-            labelled.setdefault(plan, "%s %d" % (kind, i))
-    for plan, label in labelled.items():
-        yield label, plan, model.stripwalk(plan).encode()
-
-
+# Each program that reads, with its inputs: a label, the input, and what must be written for it.
 PROGRAMS = {
-    "stripwalk": listings,
+    "stripwalk": stripwalk.inputs,
+    "replies": replies.inputs,
 }
 
 
@@ -296,7 +50,7 @@ def show(name, label, given, expected, came, failure):
     """The input, and both outputs around the first byte that differs."""
     shorter = min(len(expected), len(came))
     at = next((i for i in range(shorter) if expected[i] != came[i]), shorter)
-    print("programs: %s is wrong on the input '%s'" % (name, label))
+    print("programs: %s is wrong on the input '%s', in line %d" % (name, label, expected.count(b"\n", 0, at) + 1))
     print("  input     %d bytes: %s" % (len(given), cut(given.hex())))
     print("  expected  %s" % near(expected, at))
     print("  came      %s" % near(came, at))
@@ -305,15 +59,15 @@ def show(name, label, given, expected, came, failure):
 
 
 def is_right(program, inputs):
-    """Whether a program writes what it should for each of its inputs, and there are some."""
+    """Whether a program writes what it should for each of its inputs, and there are some, and for each there is something to write."""
     if not program.is_file():
         print("programs: %s is not built" % program.name)
         return False
-    tried = wrong = 0
+    tried = wrong = lines = 0
     for label, given, expected in inputs:
         came, failure = run(program, given)
-        tried += 1
-        if failure or came != expected:
+        tried, lines = tried + 1, lines + expected.count(b"\n")
+        if failure or not expected or came != expected:
             wrong += 1
             if wrong <= SHOWN:
                 show(program.name, label, given, expected, came, failure)
@@ -322,7 +76,7 @@ def is_right(program, inputs):
     elif wrong:
         print("programs: %s is wrong on %d of %d inputs" % (program.name, wrong, tried))
     else:
-        print("programs: %s wrote what it should for %s inputs" % (program.name, format(tried, ",")))
+        print("programs: %s wrote what it should for %s inputs, %s lines in all" % (program.name, format(tried, ","), format(lines, ",")))
     return tried > 0 and wrong == 0
 
 
@@ -332,14 +86,12 @@ def main():
     if sys.argv[1] == "--names":
         print("\n".join(PROGRAMS))
         return 0
-    if sys.argv[1] == "--sample":
-        print(model.stripwalk(SAMPLE), end="")
-        return 0
+    reading = {path.parent.name for path in CRATES.glob("*/stdin")}
+    if not reading or reading != set(PROGRAMS):
+        sys.exit("programs: the table has %s, but those that have an input are %s" % (sorted(PROGRAMS), sorted(reading)))
     folder = Path(sys.argv[1]).resolve()
     verdicts = [is_right(folder / name, inputs()) for name, inputs in PROGRAMS.items()]
-    if not verdicts:
-        print("programs: the table is empty")
-    return 0 if verdicts and all(verdicts) else 1
+    return 0 if all(verdicts) else 1
 
 
 if __name__ == "__main__":
