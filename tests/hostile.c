@@ -1,6 +1,6 @@
 /* Calls the library with junk: every set of refusals that can apply together, then inputs drawn with a fixed seed (argument: how many).
    Checked: the number given back, that a refusal leaves every byte as it was, that an answer leaves the bytes after it, and answers by
-   round trips. Exits 1 if anything is wrong. */
+   round trips. Exits 1 if anything is wrong, a number is never given or a call never answers. */
 #include "../include/strip.h"
 #include "lent.h"
 #include <limits.h>
@@ -33,7 +33,7 @@ struct ask {
 };
 
 static struct room input_room, plan_room, tray_room;
-static unsigned long refused[BITS], failures, round_trips;
+static unsigned long refused[BITS], failures, round_trips[CALLS];
 
 static void fail(const struct ask *a, const char *what, unsigned given, unsigned wanted) {
     if (failures++ >= 20) return;
@@ -214,7 +214,7 @@ static int sound_print(const struct ask *a, const uint8_t *marks) {
 }
 
 static int sound(const struct ask *a, const uint8_t *answer) {
-    round_trips++;
+    round_trips[a->call]++;
     switch (a->call) {
     case RANK: return sound_rank(a, number_in(answer, 8));
     case WORD: return sound_word(a, answer);
@@ -474,8 +474,16 @@ static void draw_call(void) {
     try_call(&a);
 }
 
+/* numbers that were never given and calls that never answered; 10, a lost cursor, is given by no call that C has */
+static unsigned never_tried(void) {
+    unsigned never = refused[0] == 0;
+    for (size_t i = 0; i < sizeof ORDER / sizeof *ORDER; i++) never += ORDER[i] != 10 && refused[ORDER[i]] == 0;
+    for (int call = 0; call < CALLS; call++) never += round_trips[call] == 0;
+    return never;
+}
+
 int main(int count, char **arguments) {
-    unsigned long inputs = count > 1 ? strtoul(arguments[1], NULL, 10) : 400000, total = 0;
+    unsigned long inputs = count > 1 ? strtoul(arguments[1], NULL, 10) : 400000, total = 0, answered = 0;
     input_room = make_room(256);
     plan_room = make_room(MOST_PLAN);
     tray_room = make_room(MOST_TRAY);
@@ -483,9 +491,11 @@ int main(int count, char **arguments) {
     all_plan_sets();
     for (unsigned long i = 0; i < inputs; i++) draw_call();
     for (unsigned i = 0; i < BITS; i++) total += refused[i];
+    for (int call = 0; call < CALLS; call++) answered += round_trips[call];
     printf("%lu hostile calls;", total);
     for (unsigned i = 0; i < BITS; i++)
         if (refused[i] != 0) printf(" number %u: %lu,", i, refused[i]);
-    printf(" %lu answers tried by round trips, %lu calls wrong\n", round_trips, failures);
-    return failures != 0;
+    printf(" %lu answers tried by round trips, %lu calls wrong\n", answered, failures);
+    if (never_tried() != 0) printf("a number is never given, or a call never answers\n");
+    return failures != 0 || never_tried() != 0;
 }

@@ -1,5 +1,5 @@
 /* Reads calls with expected results, as vectors.py prints them, and compares the library: the number given back, the answer, and every
-   byte that must stay, with trays one byte short, exact and longer. Exits 1 if anything differs. */
+   byte that must stay, with trays one byte short, exact and longer. Exits 1 if anything differs, or a call is never compared. */
 #include "../include/strip.h"
 #include "lent.h"
 
@@ -137,10 +137,14 @@ int main(void) {
         compare_all(lines);
     }
     free(line);
-    unsigned long total = 0;
-    for (int i = 0; i < CALLS; i++) total += compared[i];
+    unsigned long total = 0, idle = 0;
+    for (int i = 0; i < CALLS; i++) {
+        total += compared[i];
+        idle += compared[i] == 0;
+    }
     printf("%lu vectors compared in %lu calls;", lines, total);
     for (int i = 0; i < CALLS; i++) printf(" %s %lu,", NAMES[i], compared[i]);
     printf(" %lu calls differ\n", failures);
-    return failures != 0 || total == 0;
+    if (idle != 0) printf("a call is never compared\n");
+    return failures != 0 || idle != 0;
 }
