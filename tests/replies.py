@@ -197,10 +197,11 @@ def every_cursor():
 
 
 def large_cursors(chance):
-    """Cursors on large strips, and the same with one fault."""
+    """Cursors on large strips, on the last mark of their word too, from which the step goes to the next word; and the same with one fault."""
     for k, n, place in large_places(chance):
         _, cursor = cursor_start(k, n, place)
         yield ask_cursor(cursor)
+        yield ask_cursor(with_place(cursor, cursor[3] - 1))
         yield from map(ask_cursor, single_faults(cursor))
 
 
