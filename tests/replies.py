@@ -136,6 +136,13 @@ def large_words(chance):
                 yield ask_word(k, n, near, chance.randint(n, TRAY))
 
 
+def every_tray():
+    """A word in trays of each length, too small and longer."""
+    for k, n in ((2, 1), (36, 1), (2, 2), (3, 4), (2, 6)) + LARGE:
+        for lent in range(TRAY + 1):
+            yield ask_word(k, n, (1,) + (0,) * (n - 1), lent)
+
+
 def every_strip():
     """One word over each k and n within the limits and just outside: each number of Lyndon words, and where strips end."""
     for k, n in product(range(MOST_SHADES + 3), range(MOST_MARKS + 3)):
@@ -306,6 +313,7 @@ def requests():
     kinds = {
         "every word": every_word(),
         "large words": large_words(chance),
+        "every tray": every_tray(),
         "every strip": every_strip(),
         "refused words": refused_words(),
         "every start": every_start(),
