@@ -2,7 +2,7 @@
 """Lists every public function: whether it has a contract, how many must-fail edits bear on it, which test programs call it.
 
 A contract is judged by its own text, between the head of the function and its body. Some clause names the result or, where there is none,
-what a buffer holds at the exit; no clause says nothing. A call of the library names what each buffer that it is lent holds at the exit, too.
+what a buffer holds at the exit; no clause says nothing; and each buffer that it is lent is named as it is at the exit.
 The two functions that stand for the whole library have their record as contract.
 
 An edit bears on a public function if it changes that function, or one of the same crate that it calls, or a constant that they read, or a
@@ -124,7 +124,7 @@ def contract_lack(function):
         return "a contract that names its result"
     if not function.answers and not any(".exit" in clause.words for clause in clauses):
         return "a contract that names what it leaves"
-    for buffer in function.buffers() if function.crate in CALLS else ():
+    for buffer in function.buffers():
         if not any(clause.names_exit(buffer) for clause in clauses):
             return "a contract that names what it leaves in %s" % buffer
     return ""
