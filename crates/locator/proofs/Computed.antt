@@ -37,7 +37,7 @@ module _ {s : DS.Strip} {w : List ℕ} {l m : ℕ} (on : WordOn s w) (lead : l �
   pub wrapped-place : l + m ≡ length w → pick (eqb l 0) 0 (s .size - l) ≡ placeOf (s .k) (s .n) w
   wrapped-place h = ap (λ x. pick (eqb x 0) 0 (s .size - x)) lead ∙ wrap-place on (all h)
 
-  -- not all of them: the turn and the word it begins in
+  -- not all of them: the turn and the base word
   module _ {t : ℕ} (more : ¬ (l + m ≡ length w)) (turn : t ≡ leastTurn w) where
     not-all : ¬ (leading (s .k - 1) w + leading 0 (drop (leading (s .k - 1) w) w) ≡ s .n)
     not-all e = more (omega (arith, lead, counted, on .long))

@@ -1,4 +1,4 @@
--- The place of a window: at the wrap, or by the word that the window begins in and the first fit in the letters from that word on.
+-- The place of a window: at the wrap, or by the base word and the first fit in the letters from that word on.
 use mathlib.Core.Path.{_≡_, sym, _∙_, ap, ap₂, subst}
 use mathlib.Core.Bool.{true}
 use mathlib.Core.List.{List, _++_}

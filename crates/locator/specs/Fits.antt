@@ -1,4 +1,4 @@
--- Letters at the start of a word; the first fit of a window in a text; the necklace in whose root word a window begins.
+-- Letters at the start of a word; the first fit of a window in a text; the necklace from whose root word on a window is looked for.
 use mathlib.Core.Path.{_≡_}
 use mathlib.Core.List.{List, [], _∷_, _++_}
 use Prim.Native.Nat.{ℕ, zero, suc, _+_, _-_, _≤_}

@@ -1,2 +1,2 @@
--- Fits of a window in a text, and the word in which a window begins.
+-- Fits of a window in a text, and the word from which on it is looked for.
 pub mod Fits

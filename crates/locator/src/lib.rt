@@ -51,8 +51,8 @@ fn first_fit(text: &[u8], window: &[u8]) -> usize
     found
 }
 
-// The necklace whose root word the window begins in. w = α γ with γ α its smallest rotation, α its first `turn` letters: that
-// rotation, if α is not all k−1 (`lead` letters of w are); else the largest necklace below γ 0 .. 0.
+// The necklace from whose root word on the window is looked for: it begins in that word or right behind it. w = α γ with γ α its smallest
+// rotation, α its first `turn` letters: that rotation, if α is not all k−1 (`lead` letters of w are); else the largest necklace below γ 0 .. 0.
 fn base(k: u64, w: &[u8], turn: usize, lead: usize, v: &mut [u8])
     requires { ⌜ Based k (now w) turn lead (now v) ⌝ }
     ensures { λ _. ⌜ now (v .exit) ≡ baseOf k (now (w .entry)) turn lead ⌝ }

@@ -1,5 +1,6 @@
--- Strips, windows, cursors. The strip is the lexicographically smallest de Bruijn sequence (document 004, section 1): the ring of
--- all lengths that divide n. A mark is a letter of the strip, a place one of its positions; a window is n letters.
+-- Strips, windows, cursors. The strip is the ring of all lengths that divide n: every window is read in it once (Theorems), so it is a de Bruijn
+-- sequence. Document 004, section 1, names it the lexicographically first one; that none comes before it is not proved here.
+-- A mark is a letter of the strip, a place one of its positions; a window is n letters.
 use mathlib.Core.Bool.{Bool, _&&_, not}
 use mathlib.Core.List.{List}
 use Prim.Native.Nat.{ℕ, _^_}

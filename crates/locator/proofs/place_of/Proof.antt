@@ -1,4 +1,4 @@
--- `locator::place_of` meets its contract: at the wrap, or where the letters from the word that the window begins in first fit it.
+-- `locator::place_of` meets its contract: at the wrap, or at the first fit in the letters from the base word on.
 use mathlib.Core.Path.{refl, sym, _∙_}
 use Prim.Native.Nat.{_-_}
 use native.Mathlib.Omega.{arith}
@@ -68,7 +68,7 @@ base-requires c κs =
     turn-based (start counted .pre) (counted .before .before .count-leading .ensures) (counted .count-leading2 .ensures) (turned .before .if1 .left)
     (turned .least-turn .ensures) (replicate-take _ 60 0 (array-borrow-prefix-room turned))
 
--- after `base`: the word that the window begins in
+-- after `base`: the word from which on the window is looked for
 abbrev begun : tie.After-base → tie.Start
 begun c = start (c .before .before .before .before .before)
 
