@@ -42,7 +42,8 @@ def compared(ratio):
     """How the library does beside another maker, whose time is this multiple of the library's."""
     if ratio is None:
         return ""
-    return "%s times faster" % short(ratio) if ratio >= 1 else "%s times slower" % short(1 / ratio)
+    times = short(max(ratio, 1 / ratio))
+    return "as fast" if times == "1.0" else "%s times %s" % (times, "faster" if ratio > 1 else "slower")
 
 
 def table(rows):

@@ -3,7 +3,7 @@ use Rattle.theory.proofs.Theorems.{theorems}
 use Rattle.demands.specs.Demands.{Demands}
 use Rattle.demands.proofs.Trays.{trays, no-value, number-back}
 use Rattle.demands.proofs.Refused.{refusals}
-use Rattle.demands.proofs.Words.{lyndon, rotation, root-told, count, ranked, word-back, rank-back}
+use Rattle.demands.proofs.Words.{lyndon, rotation, root-told, count, ranked, unranked, word-back, rank-back}
 use Rattle.demands.proofs.Marks.{marked, placed, place-back, window-back, printed}
 use Rattle.demands.proofs.Walking.{started, not-started, stands, step, not-stepped, walk}
 use Rattle.demands.proofs.Laying.{laid, laid-only}
@@ -20,6 +20,7 @@ demands = record {
   root = λ k n w r a e m f. root-told k n w a e m r f;
   count = count;
   ranked = λ k n w t t′ r a e m x f. let (number, _, told) = ranked k n w a e m t t′ r x f in (number, told);
+  unranked = unranked;
   word-back = word-back;
   rank-back = rank-back;
   marked = marked;

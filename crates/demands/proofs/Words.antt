@@ -76,11 +76,19 @@ module _ (k n : ℕ) (w : List ℕ) (a : admitted k n ≡ true) (e : length w �
 pub count : (k n : ℕ) (r : DV.Value) → admitted k n ≡ true → ManySays k n r → (r .number ≡ 0) × (r .value ≡ howMany k n)
 count k n r a f = value-fine (strip-faultless k n a) f
 
-pub unranked : (k n i : ℕ) (t t′ : List ℕ) (r : ℕ) → admitted k n ≡ true → 1 ≤ i → i ≤ howMany k n → n ≤ length t → WordSays k n i t t′ r
+word-fine : (k n i : ℕ) (t t′ : List ℕ) (r : ℕ) → admitted k n ≡ true → 1 ≤ i → i ≤ howMany k n → n ≤ length t → WordSays k n i t t′ r
     → (r ≡ 0) × (t′ ≡ over (wordOf k n i) t)
-unranked k n i t t′ r a b c x f =
+word-fine k n i t t′ r a b c x f =
     let (long, _, _) = undone .index-word k n i b c in
     into-fine (indexFault k n i) (wordOf k n i) t (index-faultless k n i a b c) (omega (arith, long)) f
+
+pub unranked : (k n i : ℕ) (t t′ : List ℕ) (r : ℕ) → admitted k n ≡ true → 1 ≤ i → i ≤ howMany k n → n ≤ length t → WordSays k n i t t′ r
+    → (r ≡ 0) × (take n t′ ≡ wordOf k n i) × (isLyndon (take n t′) ≡ true)
+unranked k n i t t′ r a b c x f =
+    let (long, _, lyndon-word) = undone .index-word k n i b c in
+    let (number, over-it) = word-fine k n i t t′ r a b c x f in
+    let is : take n t′ ≡ wordOf k n i = ap (take n) over-it ∙ take-at (wordOf k n i) _ n long in
+    (number, is, ap isLyndon is ∙ lyndon-word)
 
 pub word-back : (k n : ℕ) (w t t′ u u′ : List ℕ) (r q : ℕ) → admitted k n ≡ true → length w ≡ n → marksOk k w ≡ true → isLyndon w ≡ true
     → 8 ≤ length t → n ≤ length u → RankSays k n w t t′ r → WordSays k n (be 0 8 t′) u u′ q → (r ≡ 0) × (q ≡ 0) × (u′ ≡ over w u)
@@ -89,14 +97,13 @@ word-back k n w t t′ u u′ r q a e m l x y f g =
     let (one, most) = undone .rank-range k w m l in
     let most′ : rank k w ≤ howMany k n = subst (λ i. rank k w ≤ howMany k i) e most in
     let word : wordOf k n (rank k w) ≡ w = ap (λ i. wordOf k i (rank k w)) (sym e) ∙ undone .of-word k w m l in
-    let found = unranked k n (rank k w) u u′ q a one most′ y (subst (λ i. WordSays k n i u u′ q) told g) in
+    let found = word-fine k n (rank k w) u u′ q a one most′ y (subst (λ i. WordSays k n i u u′ q) told g) in
     (fine, found .0, found .1 ∙ ap (λ x. over x u) word)
 
 pub rank-back : (k n i : ℕ) (t t′ u u′ : List ℕ) (r q : ℕ) → admitted k n ≡ true → 1 ≤ i → i ≤ howMany k n
     → n ≤ length t → 8 ≤ length u → WordSays k n i t t′ r → RankSays k n (take n t′) u u′ q → (r ≡ 0) × (q ≡ 0) × (be 0 8 u′ ≡ i)
 rank-back k n i t t′ u u′ r q a b c x y f g =
     let (e, m, _) = undone .index-word k n i b c in
-    let found = unranked k n i t t′ r a b c x f in
-    let word : take n t′ ≡ wordOf k n i = ap (take n) (found .1) ∙ take-at (wordOf k n i) _ n e in
+    let (number, word, _) = unranked k n i t t′ r a b c x f in
     let (fine, _, told) = ranked k n (wordOf k n i) a e m u u′ q y (subst (λ w. RankSays k n w u u′ q) word g) in
-    (found .0, fine, told ∙ undone .of-index k n i b c)
+    (number, fine, told ∙ undone .of-index k n i b c)

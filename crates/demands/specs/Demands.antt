@@ -6,7 +6,7 @@ use mathlib.Core.List.{List}
 use mathlib.Core.Logic.{_↔_, _≢_}
 use Prim.Native.Nat.{ℕ, _+_, _^_, _≤_, _<_}
 use lib.ListN.{length, getD, take, drop, replicate}
-use Rattle.theory.specs.Words.{below, upTo, turned, leastTurn, repeated, powerTo, marksOk, isLyndon, howMany, rank}
+use Rattle.theory.specs.Words.{below, upTo, turned, leastTurn, repeated, powerTo, marksOk, isLyndon, howMany, rank, wordOf}
 use Rattle.theory.specs.Rings.{modulo}
 use Rattle.theory.specs.Strips.{admitted, markAt, marksFrom, window, placeIn}
 use Rattle.theory.specs.Plans.{be, shades, marks, sectionCount, sections, nthS, planFault}
@@ -27,15 +27,14 @@ use Rattle.demands.specs.Walked.{Steps-on, Walked, fields, passedFrom}
 
 pub record Demands : Type 0 where
   pub theorems : Theorems
-  -- Refusals and trays, call by call
+  -- call by call: which number is given when, and what stays in a tray
   pub refusals : Refusals
   pub trays : Trays
   -- a refusal's value is 0
   pub no-value : (f v : ℕ) (r : DV.Value) → ValueIs f v r → r .number ≢ 0 → r .value ≡ 0
   -- a number is read back from its 8 bytes
   pub number-back : (v : ℕ) → v < 2 ^ 64 → be 0 8 (putBe 8 v) ≡ v
-  -- Words
-  -- is_lyndon answers 1 for a word that is smaller than each of its proper rotations, 0 for any other
+  -- Words: is_lyndon answers 1 for a word that is smaller than each of its proper rotations, 0 for any other
   pub lyndon : (k n : ℕ) (w : List ℕ) (r : DV.Value) → admitted k n ≡ true → length w ≡ n → marksOk k w ≡ true → LyndonSays k n w r
       → (r .number ≡ 0) × (r .value ≤ 1) × ((r .value ≡ 1) ↔ ((i : ℕ) → 1 ≤ i → i < n → below w (turned i w) ≡ true))
   -- smallest_rotation writes a rotation that is not above any
@@ -44,17 +43,18 @@ pub record Demands : Type 0 where
   -- shortest_root answers how many first letters, repeated, give the word; no shorter word does
   pub root : (k n : ℕ) (w : List ℕ) (r : DV.Value) → admitted k n ≡ true → length w ≡ n → marksOk k w ≡ true → RootSays k n w r
       → (r .number ≡ 0) × (1 ≤ r .value) × (powerTo n (take (r .value) w) ≡ w) × ((u : List ℕ) (e : ℕ) → w ≡ repeated e u → r .value ≤ length u)
-  -- lyndon_count answers the number of Lyndon words, rank_of writes the number of those up to a word
+  -- lyndon_count answers the number of Lyndon words, rank_of writes the number of those up to a word, word_of the one of an index
   pub count : (k n : ℕ) (r : DV.Value) → admitted k n ≡ true → ManySays k n r → (r .number ≡ 0) × (r .value ≡ howMany k n)
   pub ranked : (k n : ℕ) (w t t′ : List ℕ) (r : ℕ) → admitted k n ≡ true → length w ≡ n → marksOk k w ≡ true → 8 ≤ length t → RankSays k n w t t′ r
       → (r ≡ 0) × (be 0 8 t′ ≡ rank k w)
+  pub unranked : (k n i : ℕ) (t t′ : List ℕ) (r : ℕ) → admitted k n ≡ true → 1 ≤ i → i ≤ howMany k n → n ≤ length t → WordSays k n i t t′ r
+      → (r ≡ 0) × (take n t′ ≡ wordOf k n i) × (isLyndon (take n t′) ≡ true)
   -- rank_of, then word_of with what it wrote, gives the Lyndon word back; and the other way round
   pub word-back : (k n : ℕ) (w t t′ u u′ : List ℕ) (r q : ℕ) → admitted k n ≡ true → length w ≡ n → marksOk k w ≡ true → isLyndon w ≡ true
       → 8 ≤ length t → n ≤ length u → RankSays k n w t t′ r → WordSays k n (be 0 8 t′) u u′ q → (r ≡ 0) × (q ≡ 0) × (u′ ≡ over w u)
   pub rank-back : (k n i : ℕ) (t t′ u u′ : List ℕ) (r q : ℕ) → admitted k n ≡ true → 1 ≤ i → i ≤ howMany k n
       → n ≤ length t → 8 ≤ length u → WordSays k n i t t′ r → RankSays k n (take n t′) u u′ q → (r ≡ 0) × (q ≡ 0) × (be 0 8 u′ ≡ i)
-  -- Marks and places
-  -- mark_at writes the strip's mark at a place
+  -- Marks and places: mark_at writes the strip's mark at a place
   pub marked : (k n p : ℕ) (t t′ : List ℕ) (r : ℕ) → admitted k n ≡ true → p < k ^ n → 8 ≤ length t → MarkSays k n p t t′ r
       → (r ≡ 0) × (be 0 8 t′ ≡ markAt k n p) × (be 0 8 t′ < k)
   -- every window is read at exactly one place, and place_of writes that one
@@ -69,8 +69,7 @@ pub record Demands : Type 0 where
   -- print_marks of any number of marks: each is the strip's, round the end as often as need be
   pub printed : (k n p c : ℕ) (t t′ : List ℕ) (r : ℕ) → admitted k n ≡ true → p < k ^ n → c ≤ length t → PrintSays k n p c t t′ r
       → (r ≡ 0) × (take c t′ ≡ marksFrom k n p c) × ((j : ℕ) → j < c → getD t′ j 0 ≡ markAt k n (p + j))
-  -- Cursors
-  -- a start: a cursor without fault on the place; refused, one that is zero in every field
+  -- Cursors: a start gives a cursor without fault on the place; refused, one that is zero in every field
   pub started : (k n p : ℕ) (r : DS.Started) → admitted k n ≡ true → p < k ^ n → StartSays k n p r
       → (r .number ≡ 0) × (r .cursor .k ≡ k) × (r .cursor .n ≡ n) × (cursorFault (r .cursor) ≡ 0) × (placeIn (cursorIn (r .cursor)) ≡ p)
   pub not-started : (k n p : ℕ) (r : DS.Started) → StartSays k n p r → r .number ≢ 0 → empty (r .cursor) ≡ true
@@ -86,8 +85,7 @@ pub record Demands : Type 0 where
       → StartSays k n p r → Walked (r .cursor) qs d → WhereSays d v
       → (r .number ≡ 0) × (fields (λ q. q .number) qs ≡ replicate (length qs) 0) × (fields (λ q. q .mark) qs ≡ marksFrom k n p (length qs))
       × (fields (λ q. q .passed) qs ≡ passedFrom k n p (length qs)) × (v .number ≡ 0) × (v .value ≡ modulo (p + length qs) (k ^ n))
-  -- Plans
-  -- look_up on the window at a distance in a section of an accepted plan writes that section and that distance, and no byte after them
+  -- Plans: look_up on the window at a distance in a section of an accepted plan writes that section and that distance, and no byte after them
   pub laid : (s : List ℕ) (i d : ℕ) (t t′ : List ℕ) (r : ℕ) → planFault s ≡ 0 → i < sectionCount s → d + marks s ≤ nthS (sections s) i .long
       → 10 ≤ length t → LookupSays s (window (shades s) (marks s) (nthS (sections s) i .offset + d)) t t′ r
       → (r ≡ 0) × (be 0 2 t′ ≡ i) × (be 2 8 t′ ≡ d) × (drop 10 t′ ≡ drop 10 t)
