@@ -137,15 +137,7 @@ previous-of {z} {n} {y} g m h = elim (latest-of y (lyndonsUp (suc z) n) (0 ∷ [
         is : nextLyndon (suc z) n x ≡ y
         is = elim (le-cases (next-nearest w m p)) [ inl r ↦ absurd (le-not-lt (f (nextLyndon (suc z) n x) (member-out z n next) r) (next-above w top)) | inr r ↦ r ]
 
--- words passed: none from a word to itself
-passed-none : (v : List ℕ) (ws : List (List ℕ)) → passedBy v v ws ≡ 0
-passed-none v [] = refl
-passed-none v (w ∷ ws) = elim (test (below v w)) [
-  | inl t ↦ rw (t, lt-not-upTo (below-lt v w t)) (passed-none v ws)
-  | inr t ↦ rw t (passed-none v ws)
-]
-
--- a step passes the word that it leads to, since no other is between
+-- words passed: a step passes the word that it leads to, since no other is between
 passed-step : {z n : ℕ} {u : List ℕ} (v : List ℕ) → Member z n u → u ≢ z ∷ [] → upTo (nextLyndon (suc z) n u) v ≡ true
     → passedBy u v (lyndonsUp (suc z) n) ≡ suc (passedBy (nextLyndon (suc z) n u) v (lyndonsUp (suc z) n))
 passed-step {z} {n} {u} v m h g =
@@ -162,6 +154,14 @@ passed-step {z} {n} {u} v m h g =
     same-side : (w : List ℕ) → In w (lyndonsUp (suc z) n) → w ≢ y → (below u w ≡ true) ⊎ (below u w ≡ false) → below u w ≡ below y w
     same-side w j q (inl t) = t ∙ elim (le-cases (next-nearest m (member-in z n j) (below-lt u w t))) [ inl r ↦ sym (lt-below r) | inr r ↦ absurd (q (sym r)) ]
     same-side w j q (inr t) = t ∙ sym (le-not-below (le-trans (not-below t) (lt-le above)))
+
+-- none from a word to itself
+passed-none : (v : List ℕ) (ws : List (List ℕ)) → passedBy v v ws ≡ 0
+passed-none v [] = refl
+passed-none v (w ∷ ws) = elim (test (below v w)) [
+  | inl t ↦ rw (t, lt-not-upTo (below-lt v w t)) (passed-none v ws)
+  | inr t ↦ rw t (passed-none v ws)
+]
 
 pub steps : (k n : ℕ) → 2 ≤ k → 1 ≤ n → Steps k n
 steps zero n h g = absurd (omega arith)
