@@ -1,8 +1,7 @@
 -- The least word whose CS has more than p words: its root word holds the position p.
-use mathlib.Core.Path.{_≡_, refl, sym, _∙_, ap, ap₂, subst}
+use mathlib.Core.Path.{_≡_, sym, _∙_, ap, ap₂, subst}
 use mathlib.Core.Bool.{true}
-use mathlib.Core.List.{List, [], _∷_}
-use mathlib.Core.Logic.{inl, inr}
+use mathlib.Core.List.{List, []}
 use Prim.Native.Nat.{ℕ, _+_, _-_, _^_, _≤_, _<_}
 use native.Mathlib.Omega.{arith}
 use lib.Dec.{ltb}
@@ -11,11 +10,11 @@ use lib.Seq.{take-at, drop-at}
 use borrow.Author.Tests.{ltb-true}
 use Rattle.theory.specs.Words.{smallest, root, marksOk, isLyndon}
 use Rattle.theory.specs.Sums.{cs}
-use Rattle.theory.specs.Rings.{Cursor, cursor, beforeW, atFrom}
+use Rattle.theory.specs.Rings.{Cursor, cursor, beforeW}
 use Rattle.theory.specs.Strips.{divisorOf, stripWords, cursorAt}
 use Rattle.theory.specs.Search.{leastWord}
-use Rattle.theory.proofs.Base.{test, and-r}
-use Rattle.theory.proofs.Cursors.{cursors}
+use Rattle.theory.proofs.Base.{and-r}
+use Rattle.theory.proofs.Cursors.{cursors, at-kept}
 use Rattle.theory.proofs.Positions.{by-cs, word-fits}
 use Rattle.theory.proofs.Locating.{Root-word, root-word}
 use Rattle.theory.proofs.Letters.{marks-take}
@@ -32,11 +31,6 @@ use Rattle.rings.proofs.Moving.{held-fits, held-length}
 use Rattle.ranks.proofs.Shapes.{counted}
 use Rattle.access.specs.declared.Spot as DP
 use Rattle.access.specs.Holders.{HoldsAt, PutAt}
-
--- a cursor of a list keeps k and n
-pub at-kept : (k n : ℕ) (ws : List (List ℕ)) (p : ℕ) → (atFrom k n ws p .k ≡ k) × (atFrom k n ws p .n ≡ n)
-at-kept k n [] p = (refl, refl)
-at-kept k n (w ∷ ws) p = elim (test (ltb p (length w))) [ inl t ↦ rw (t, atFrom) (refl, refl) | inr t ↦ rw (t, atFrom) (at-kept k n ws (p - length w)) ]
 
 -- the word found
 abbrev pub found : ℕ → ℕ → ℕ → List ℕ

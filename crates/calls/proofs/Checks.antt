@@ -115,12 +115,14 @@ pub record StripIs (k n : ℕ) (s : DS.Strip) : Type 0 where
 pub strip-size : {k n : ℕ} {s : DS.Strip} → StripIs k n s → s .size ≡ k ^ n
 strip-size h = h .shaped .size ∙ ap₂ _^_ (h .letters) (h .marks)
 
+pub strip-admits : (k n : ℕ) → stripFault k n ≡ 0 → admitted k n ≡ true
+strip-admits k n z = not-false _ (when-none (not (admitted k n)) 1 (λ e. omega arith) z)
+
 -- a check that passed, with a fault that tells at least whether the strip is admitted
 pub strip-is : (f k n : ℕ) {c : Checked} {s : DS.Strip} → (f ≡ 0 → stripFault k n ≡ 0) → Checks f k n c → c ≡ Strip s → StripIs k n s
 strip-is f k n least e g =
     let (none, is) = passed f k n e g in
-    let admit : admitted k n ≡ true = not-false _ (when-none (not (admitted k n)) 1 (λ z. omega arith) (least none)) in
-    subst (StripIs k n) is (record { shaped = record { admit = admit; size = refl }; letters = refl; marks = refl })
+    subst (StripIs k n) is (record { shaped = record { admit = strip-admits k n (least none); size = refl }; letters = refl; marks = refl })
 
 -- a word, and its fault
 module _ (k n : ℕ) (w : List ℕ) where

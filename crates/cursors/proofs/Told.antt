@@ -40,12 +40,17 @@ module _ (c : DC.Cursor) {m : Checked} (e : Checks (stripFault (c .k) (c .n)) (c
     pub good-it : true ≡ (tidy c && cursorOk (cursorIn c)) → Checks (cursorFault c) (c .k) (c .n) (Strip s)
     good-it t = strip-then-passed (c .k) (c .n) after e f (ap (λ b. when (not b) 10) (sym t))
 
+-- what no fault says: an admitted strip, and fields that are good
+pub faultless-says : (c : DC.Cursor) → cursorFault c ≡ 0 → (stripFault (c .k) (c .n) ≡ 0) × ((tidy c && cursorOk (cursorIn c)) ≡ true)
+faultless-says c z =
+    let (strip, held) = first-none (stripFault (c .k) (c .n)) _ z in
+    (strip, not-false _ (when-none (not (tidy c && cursorOk (cursorIn c))) 10 (λ e. omega arith) held))
+
 -- a cursor that passed it
 pub good-on : (c : DC.Cursor) {m : Checked} {s : DH.Strip} → Checks (cursorFault c) (c .k) (c .n) m → m ≡ Strip s → GoodOn s c
 good-on c e f =
-    let on = strip-is (cursorFault c) (c .k) (c .n) (λ z. first-none (stripFault (c .k) (c .n)) _ z .0) e f in
-    let none = first-none (stripFault (c .k) (c .n)) _ (passed (cursorFault c) (c .k) (c .n) e f .0) .1 in
-    record { shaped = on .shaped; letters = on .letters; marks = on .marks; good = not-false _ (when-none (not (tidy c && cursorOk (cursorIn c))) 10 (λ z. omega arith) none) }
+    let on = strip-is (cursorFault c) (c .k) (c .n) (λ z. faultless-says c z .0) e f in
+    record { shaped = on .shaped; letters = on .letters; marks = on .marks; good = faultless-says c (passed (cursorFault c) (c .k) (c .n) e f .0) .1 }
 
 -- a step
 pub step-refused : (c : DC.Cursor) {x : ℕ} (r : DT.Stepped) → cursorFault c ≡ x → ¬ (x ≡ 0)

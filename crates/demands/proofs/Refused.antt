@@ -1,5 +1,5 @@
 -- Each call's number is the first of `order` that applies: the record Refusals.
-use mathlib.Core.Path.{_≡_, refl, sym, _∙_, ap}
+use mathlib.Core.Path.{_≡_, sym, _∙_, ap}
 use mathlib.Core.Bool.{_&&_, _||_, not}
 use mathlib.Core.List.{List, _++_}
 use mathlib.Core.Logic.{_↔_, _≢_}
@@ -9,12 +9,11 @@ use native.Mathlib.Decide.{ℕ-discrete}
 use lib.Dec.{eqb, ltb, leb}
 use lib.ListN.{length}
 use borrow.Author.Tests.{ne-eqb}
-use Rattle.theory.specs.Words.{firstOf, when, marksOk, smallest, howMany, rank, wordOf}
-use Rattle.theory.specs.Strips.{admitted, window, markAt, placeOf, cursorOk}
+use Rattle.theory.specs.Words.{firstOf, when, marksOk, howMany}
+use Rattle.theory.specs.Strips.{admitted, window, cursorOk}
 use Rattle.theory.specs.Plans.{shades, marks, sectionCount, sections, nthS, planFault, wordFault, torn, straightFrom, layingOf, distanceOf, lookupFault}
 use Rattle.theory.proofs.Rings.{one-place, admitted-range}
 use Rattle.theory.proofs.Laying as theory
-use Rattle.buffers.specs.Buffers.{putBe}
 use Rattle.calls.specs.Order.{given}
 use Rattle.calls.specs.Refusals.{theWordFault, indexFault, placeFault}
 use Rattle.calls.proofs.Order.{given-none, given-first}
@@ -22,7 +21,7 @@ use Rattle.calls.proofs.Checks.{word-fine}
 use Rattle.cursors.specs.declared.Cursor as DC
 use Rattle.cursors.specs.Cursors.{cursorIn, tidy, cursorFault}
 use Rattle.demands.specs.Refused.{markRules, wordRules, placeRules, indexRules, cursorRules, planRules, layingRules, trayRules, Refusals}
-use Rattle.demands.proofs.Trays.{into-number, rotation-long, index-word-long}
+use Rattle.demands.proofs.Trays.{answer-number, rotation-answers, rank-answers, word-answers, mark-answers, place-answers, print-answers, look-up-answers}
 use Rattle.calls.proofs.Numbers.{strip-number, marks-number, word-number, place-number, cursor-number, plan-number, word-tray-number, place-tray-number, index-tray-number, laying-tray-number}
 
 -- the faults of each kind of argument, alone and with a tray of m bytes
@@ -90,17 +89,16 @@ refusals = record {
   none = given-none;
   first = given-first;
   is-lyndon = λ k n w r e. e .0 ∙ word-given k n w;
-  smallest-rotation = λ k n w t t′ r e. into-number n (theWordFault k n w) (smallest w) t t′ r (rotation-long k n w) e ∙ word-tray k n w t n;
+  smallest-rotation = λ k n w t t′ r e. answer-number (rotation-answers k n w t t′ r e) ∙ word-tray k n w t n;
   shortest-root = λ k n w r e. e .0 ∙ word-given k n w;
   lyndon-count = λ k n r e. e .0 ∙ strip-number (not (admitted k n));
-  rank-of = λ k n w t t′ r e. into-number 8 (theWordFault k n w) (putBe 8 (rank k w)) t t′ r (λ _. refl) e ∙ word-tray k n w t 8;
-  word-of = λ k n i t t′ r e. into-number n (indexFault k n i) (wordOf k n i) t t′ r (index-word-long k n i) e ∙ index-tray k n i t n;
-  mark-at = λ k n p t t′ r e. into-number 8 (placeFault k n p) (putBe 8 (markAt k n p)) t t′ r (λ _. refl) e ∙ place-tray k n p t 8;
-  place-of = λ k n w t t′ r e. into-number 8 (theWordFault k n w) (putBe 8 (placeOf k n w)) t t′ r (λ _. refl) e ∙ word-tray k n w t 8;
-  print-marks = λ k n p c t t′ r e. e .0 ∙ place-tray k n p t c;
+  rank-of = λ k n w t t′ r e. answer-number (rank-answers k n w t t′ r e) ∙ word-tray k n w t 8;
+  word-of = λ k n i t t′ r e. answer-number (word-answers k n i t t′ r e) ∙ index-tray k n i t n;
+  mark-at = λ k n p t t′ r e. answer-number (mark-answers k n p t t′ r e) ∙ place-tray k n p t 8;
+  place-of = λ k n w t t′ r e. answer-number (place-answers k n w t t′ r e) ∙ word-tray k n w t 8;
+  print-marks = λ k n p c t t′ r e. answer-number (print-answers k n p c t t′ r e) ∙ place-tray k n p t c;
   check-plan = λ s r e. e ∙ plan-given s;
-  look-up = λ s w t t′ r e.
-      into-number 10 (lookupFault s w) (putBe 2 (layingOf s w - 1) ++ putBe 8 (distanceOf s w)) t t′ r (λ _. refl) e ∙ laying-tray s w t 10;
+  look-up = λ s w t t′ r e. answer-number (look-up-answers s w t t′ r e) ∙ laying-tray s w t 10;
   start-cursor = λ k n p r e. e .0 ∙ place-given k n p;
   cursor-place = λ c r e. e .0 ∙ cursor-given c;
   step = λ c r e. e .0 ∙ cursor-given c;

@@ -23,6 +23,9 @@ use Rattle.calls.specs.Answers.{Into, Number, ValueIs}
 use Rattle.calls.specs.Refusals.{theWordFault, indexFault, placeFault}
 use Rattle.calls.proofs.Checks.{first-none, word-fine}
 use Rattle.words.proofs.Indexes.{index-range, index-long}
+use Rattle.words.specs.Says.{RotationSays, RankSays, WordSays}
+use Rattle.marks.specs.Says.{MarkSays, PlaceSays, PrintSays}
+use Rattle.lookups.specs.Says.{LookupSays}
 use Rattle.demands.specs.Trays.{Keeps, Trays}
 
 -- no fault, so the answer over the start of the tray
@@ -61,9 +64,13 @@ answered zero b t {t′} e z = elim (test (ltb (length t) (length b))) [ inl h �
     fits h = rw h at e .1
 answered (suc f) b t e z = absurd (omega (arith, e .0, z))
 
--- a tray of an answer with m bytes
-pub keeps : (m f : ℕ) (b t t′ : List ℕ) (r : ℕ) → (f ≡ 0 → length b ≡ m) → Into f (pick (eqb f 0) b []) t t′ r → Keeps m t t′ r
-keeps m zero b t t′ r long e = elim (test (ltb (length t) (length b))) [ inl h ↦ as-before (rw h at e .1) | inr h ↦ answer h ]
+-- an answer of m bytes, unless there is the fault f
+pub data Answers (m f : ℕ) (t t′ : List ℕ) (r : ℕ) : Type 0 where
+  answers : (b : List ℕ) → (f ≡ 0 → length b ≡ m) → Into f (pick (eqb f 0) b []) t t′ r → Answers m f t t′ r
+
+-- what it leaves in the tray
+keeps : {m f r : ℕ} {t t′ : List ℕ} → Answers m f t t′ r → Keeps m t t′ r
+keeps {m = m} {f = zero} {r = r} {t = t} {t′ = t′} (answers b long e) = elim (test (ltb (length t) (length b))) [ inl h ↦ as-before (rw h at e .1) | inr h ↦ answer h ]
   where
     as-before : t′ ≡ t → Keeps m t t′ r
     as-before x = (λ _. x, ap length x, ap (drop m) x)
@@ -74,14 +81,14 @@ keeps m zero b t t′ r long e = elim (test (ltb (length t) (length b))) [ inl h
         let x : t′ ≡ over b t = rw h at e .1 in
         let size : length b ≡ m = long refl in
         (λ some. absurd (some none), ap length x ∙ over-length b t (ltb-false (length t) (length b) h), ap₂ drop (sym size) x ∙ drop-append-seam b (drop (length b) t) ∙ ap (λ i. drop i t) size)
-keeps m (suc f) b t t′ r long e =
+keeps {m = m} {f = suc f} {r = r} {t = t} {t′ = t′} (answers b long e) =
     let x : t′ ≡ t = rw (ne-eqb (suc f) 0 (λ z. omega arith)) at e .1 in
     (λ _. x, ap length x, ap (drop m) x)
 
--- the number, by the answer's m bytes
-pub into-number : (m f : ℕ) (b t t′ : List ℕ) (r : ℕ) → (f ≡ 0 → length b ≡ m) → Into f (pick (eqb f 0) b []) t t′ r → r ≡ firstOf f (when (ltb (length t) m) 6)
-into-number m zero b t t′ r long e = e .0 ∙ ap (λ i. when (ltb (length t) i) 6) (long refl)
-into-number m (suc f) b t t′ r long e = e .0
+-- its number
+pub answer-number : {m f r : ℕ} {t t′ : List ℕ} → Answers m f t t′ r → r ≡ firstOf f (when (ltb (length t) m) 6)
+answer-number {f = zero} {t = t} (answers b long e) = e .0 ∙ ap (λ i. when (ltb (length t) i) 6) (long refl)
+answer-number {f = suc f} (answers b long e) = e .0
 
 -- marks printed are an answer of c bytes
 pub print-into : (f c : ℕ) (x t t′ : List ℕ) (r : ℕ) → length x ≡ c
@@ -94,25 +101,47 @@ print-into (suc f) c x t t′ r long e =
     let same : t′ ≡ t = rw other at e .1 in
     (e .0, rw other same)
 
--- a word's length, where the word has no fault; and that of a word with an index
-pub word-long : (k n : ℕ) (w : List ℕ) → theWordFault k n w ≡ 0 → length w ≡ n
+-- the lengths of a word, of its rotation and of a word with an index, where there is no fault
+word-long : (k n : ℕ) (w : List ℕ) → theWordFault k n w ≡ 0 → length w ≡ n
 word-long k n w z = word-fine k n w (first-none (stripFault k n) _ z .1) .0
 
-pub rotation-long : (k n : ℕ) (w : List ℕ) → theWordFault k n w ≡ 0 → length (smallest w) ≡ n
+rotation-long : (k n : ℕ) (w : List ℕ) → theWordFault k n w ≡ 0 → length (smallest w) ≡ n
 rotation-long k n w z = smallest-length w ∙ word-long k n w z
 
-pub index-word-long : (k n i : ℕ) → indexFault k n i ≡ 0 → length (wordOf k n i) ≡ n
+index-word-long : (k n i : ℕ) → indexFault k n i ≡ 0 → length (wordOf k n i) ≡ n
 index-word-long k n i z = let (some, few) = index-range k n i z in index-long k n i some few
+
+-- each call with a tray
+pub rotation-answers : (k n : ℕ) (w t t′ : List ℕ) (r : ℕ) → RotationSays k n w t t′ r → Answers n (theWordFault k n w) t t′ r
+rotation-answers k n w t t′ r e = answers (smallest w) (rotation-long k n w) e
+
+pub rank-answers : (k n : ℕ) (w t t′ : List ℕ) (r : ℕ) → RankSays k n w t t′ r → Answers 8 (theWordFault k n w) t t′ r
+rank-answers k n w t t′ r e = answers (putBe 8 (rank k w)) (λ _. refl) e
+
+pub word-answers : (k n i : ℕ) (t t′ : List ℕ) (r : ℕ) → WordSays k n i t t′ r → Answers n (indexFault k n i) t t′ r
+word-answers k n i t t′ r e = answers (wordOf k n i) (index-word-long k n i) e
+
+pub mark-answers : (k n p : ℕ) (t t′ : List ℕ) (r : ℕ) → MarkSays k n p t t′ r → Answers 8 (placeFault k n p) t t′ r
+mark-answers k n p t t′ r e = answers (putBe 8 (markAt k n p)) (λ _. refl) e
+
+pub place-answers : (k n : ℕ) (w t t′ : List ℕ) (r : ℕ) → PlaceSays k n w t t′ r → Answers 8 (theWordFault k n w) t t′ r
+place-answers k n w t t′ r e = answers (putBe 8 (placeOf k n w)) (λ _. refl) e
+
+pub print-answers : (k n p c : ℕ) (t t′ : List ℕ) (r : ℕ) → PrintSays k n p c t t′ r → Answers c (placeFault k n p) t t′ r
+print-answers k n p c t t′ r e =
+    let long = letters-length (k ^ n) (strip k n) p c in
+    answers (marksFrom k n p c) (λ _. long) (print-into (placeFault k n p) c (marksFrom k n p c) t t′ r long e)
+
+pub look-up-answers : (s w t t′ : List ℕ) (r : ℕ) → LookupSays s w t t′ r → Answers 10 (lookupFault s w) t t′ r
+look-up-answers s w t t′ r e = answers (putBe 2 (layingOf s w - 1) ++ putBe 8 (distanceOf s w)) (λ _. refl) e
 
 pub trays : Trays
 trays = record {
-  smallest-rotation = λ k n w t t′ r e. keeps n (theWordFault k n w) (smallest w) t t′ r (rotation-long k n w) e;
-  rank-of = λ k n w t t′ r e. keeps 8 (theWordFault k n w) (putBe 8 (rank k w)) t t′ r (λ _. refl) e;
-  word-of = λ k n i t t′ r e. keeps n (indexFault k n i) (wordOf k n i) t t′ r (index-word-long k n i) e;
-  mark-at = λ k n p t t′ r e. keeps 8 (placeFault k n p) (putBe 8 (markAt k n p)) t t′ r (λ _. refl) e;
-  place-of = λ k n w t t′ r e. keeps 8 (theWordFault k n w) (putBe 8 (placeOf k n w)) t t′ r (λ _. refl) e;
-  print-marks = λ k n p c t t′ r e.
-      let long = letters-length (k ^ n) (strip k n) p c in
-      keeps c (placeFault k n p) (marksFrom k n p c) t t′ r (λ _. long) (print-into (placeFault k n p) c (marksFrom k n p c) t t′ r long e);
-  look-up = λ s w t t′ r e. keeps 10 (lookupFault s w) (putBe 2 (layingOf s w - 1) ++ putBe 8 (distanceOf s w)) t t′ r (λ _. refl) e;
+  smallest-rotation = λ k n w t t′ r e. keeps (rotation-answers k n w t t′ r e);
+  rank-of = λ k n w t t′ r e. keeps (rank-answers k n w t t′ r e);
+  word-of = λ k n i t t′ r e. keeps (word-answers k n i t t′ r e);
+  mark-at = λ k n p t t′ r e. keeps (mark-answers k n p t t′ r e);
+  place-of = λ k n w t t′ r e. keeps (place-answers k n w t t′ r e);
+  print-marks = λ k n p c t t′ r e. keeps (print-answers k n p c t t′ r e);
+  look-up = λ s w t t′ r e. keeps (look-up-answers s w t t′ r e);
 }

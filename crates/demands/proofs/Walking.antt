@@ -1,26 +1,26 @@
 -- A cursor without fault stands on a place and steps to the next; one that is started steps along the strip, mark by mark, and round its end.
 use mathlib.Core.Path.{_≡_, refl, sym, _∙_, ap, ap₂, subst}
-use mathlib.Core.Bool.{true, false, _&&_, not}
+use mathlib.Core.Bool.{true, false, not}
 use mathlib.Core.List.{List, _∷_}
-use mathlib.Core.Logic.{_≢_, inl, inr}
+use mathlib.Core.Logic.{_≢_}
 use Prim.Native.Nat.{ℕ, zero, suc, _+_, _^_, _<_}
 use native.Mathlib.Omega.{arith}
 use native.Mathlib.Nat.{add-zero}
-use lib.Dec.{eqb, ltb}
+use lib.Dec.{eqb}
 use lib.ListN.{length, replicate}
-use borrow.Author.Tests.{ne-eqb, not-false}
+use borrow.Author.Tests.{ne-eqb}
 use Rattle.theory.specs.Words.{firstOf, when}
 use Rattle.theory.specs.Rings.{Cursor, modulo, passedTo}
-use Rattle.theory.specs.Strips.{admitted, strip, markAt, marksFrom, cursorOk, cursorAt, placeIn, stepOf, stripWords, stripFault}
-use Rattle.theory.proofs.Base.{test, and-in, and-l, and-r}
-use Rattle.theory.proofs.Cursors.{cursors}
+use Rattle.theory.specs.Strips.{admitted, strip, markAt, marksFrom, cursorOk, cursorAt, placeIn, stepOf, stripWords, divisorOf, stripFault}
+use Rattle.theory.proofs.Base.{and-in, and-l, and-r}
+use Rattle.theory.proofs.Cursors.{cursors, at-kept, step-kept}
 use Rattle.theory.proofs.Reading.{modulo-small, modulo-lt, modulo-modulo, modulo-suc, letters-modulo}
 use Rattle.shape.proofs.Limits.{Limits, admitted-limits, limits-admit}
 use Rattle.rings.proofs.Printing.{modulo-plus}
-use Rattle.access.proofs.Holding.{at-kept}
 use Rattle.calls.specs.declared.Value as DV
 use Rattle.calls.specs.Refusals.{placeFault}
-use Rattle.calls.proofs.Checks.{first-none, when-none}
+use Rattle.calls.proofs.Checks.{strip-admits}
+use Rattle.cursors.proofs.Told.{faultless-says}
 use Rattle.cursors.specs.declared.Cursor as DC
 use Rattle.cursors.specs.declared.Started as DS
 use Rattle.cursors.specs.declared.Stepped as DT
@@ -36,17 +36,13 @@ record Sound (c : DC.Cursor) : Type 0 where
 
 sound : (c : DC.Cursor) → cursorFault c ≡ 0 → Sound c
 sound c h =
-    let (strip, held) = first-none (stripFault (c .k) (c .n)) _ h in
-    let both = not-false _ (when-none (not (tidy c && cursorOk (cursorIn c))) 10 (λ z. omega arith) held) in
-    record { limits = admitted-limits (c .k) (c .n) (not-false _ (when-none _ 1 (λ z. omega arith) strip)); tidied = and-l (tidy c) _ both; good = and-r (tidy c) _ both }
+    let (strip, both) = faultless-says c h in
+    record { limits = admitted-limits (c .k) (c .n) (strip-admits (c .k) (c .n) strip); tidied = and-l (tidy c) _ both; good = and-r (tidy c) _ both }
 
 faultless : (k n : ℕ) (c : DC.Cursor) → admitted k n ≡ true → c .k ≡ k → c .n ≡ n → tidy c ≡ true → cursorOk (cursorIn c) ≡ true → cursorFault c ≡ 0
 faultless k n c a letters marks tidied good =
     let none : stripFault (c .k) (c .n) ≡ 0 = ap₂ stripFault letters marks ∙ strip-faultless k n a in
     ap₂ (λ x b. firstOf x (when (not b) 10)) none (and-in tidied good)
-
-step-kept : (x : Cursor) → (stepOf x .cursor-is .k ≡ x .k) × (stepOf x .cursor-is .n ≡ x .n)
-step-kept x = elim (test (ltb (suc (x .place)) (length (x .word)))) [ inl t ↦ rw t (refl, refl) | inr t ↦ rw t (refl, refl) ]
 
 -- a start
 pub started : (k n p : ℕ) (r : DS.Started) → admitted k n ≡ true → p < k ^ n → StartSays k n p r
@@ -80,7 +76,7 @@ step c q h e =
     let x = stepOf (cursorIn c) in
     let (number, mark, passed, (is, tidied)) : (q .number ≡ 0) × (q .mark ≡ x .mark) × (q .passed ≡ x .passed) × Is (x .cursor-is) (q .cursor) = rw h at e in
     let (reads, good, place, told, few) = cursors .onward (cursorIn c) (s .limits .two) (s .limits .some) (s .good) in
-    let kept = step-kept (cursorIn c) in
+    let kept = step-kept (divisorOf (c .n)) (cursorIn c) in
     let letters : q .cursor .k ≡ c .k = ap (λ y. y .k) is ∙ kept .0 in
     let marks : q .cursor .n ≡ c .n = ap (λ y. y .n) is ∙ kept .1 in
     record {

@@ -76,9 +76,9 @@ module _ (k n : ℕ) (w : List ℕ) (a : admitted k n ≡ true) (e : length w �
 pub count : (k n : ℕ) (r : DV.Value) → admitted k n ≡ true → ManySays k n r → (r .number ≡ 0) × (r .value ≡ howMany k n)
 count k n r a f = value-fine (strip-faultless k n a) f
 
-word-fine : (k n i : ℕ) (t t′ : List ℕ) (r : ℕ) → admitted k n ≡ true → 1 ≤ i → i ≤ howMany k n → n ≤ length t → WordSays k n i t t′ r
+word-written : (k n i : ℕ) (t t′ : List ℕ) (r : ℕ) → admitted k n ≡ true → 1 ≤ i → i ≤ howMany k n → n ≤ length t → WordSays k n i t t′ r
     → (r ≡ 0) × (t′ ≡ over (wordOf k n i) t)
-word-fine k n i t t′ r a b c x f =
+word-written k n i t t′ r a b c x f =
     let (long, _, _) = undone .index-word k n i b c in
     into-fine (indexFault k n i) (wordOf k n i) t (index-faultless k n i a b c) (omega (arith, long)) f
 
@@ -86,7 +86,7 @@ pub unranked : (k n i : ℕ) (t t′ : List ℕ) (r : ℕ) → admitted k n ≡ 
     → (r ≡ 0) × (take n t′ ≡ wordOf k n i) × (isLyndon (take n t′) ≡ true)
 unranked k n i t t′ r a b c x f =
     let (long, _, lyndon-word) = undone .index-word k n i b c in
-    let (number, over-it) = word-fine k n i t t′ r a b c x f in
+    let (number, over-it) = word-written k n i t t′ r a b c x f in
     let is : take n t′ ≡ wordOf k n i = ap (take n) over-it ∙ take-at (wordOf k n i) _ n long in
     (number, is, ap isLyndon is ∙ lyndon-word)
 
@@ -97,7 +97,7 @@ word-back k n w t t′ u u′ r q a e m l x y f g =
     let (one, most) = undone .rank-range k w m l in
     let most′ : rank k w ≤ howMany k n = subst (λ i. rank k w ≤ howMany k i) e most in
     let word : wordOf k n (rank k w) ≡ w = ap (λ i. wordOf k i (rank k w)) (sym e) ∙ undone .of-word k w m l in
-    let found = word-fine k n (rank k w) u u′ q a one most′ y (subst (λ i. WordSays k n i u u′ q) told g) in
+    let found = word-written k n (rank k w) u u′ q a one most′ y (subst (λ i. WordSays k n i u u′ q) told g) in
     (fine, found .0, found .1 ∙ ap (λ x. over x u) word)
 
 pub rank-back : (k n i : ℕ) (t t′ u u′ : List ℕ) (r q : ℕ) → admitted k n ≡ true → 1 ≤ i → i ≤ howMany k n

@@ -124,13 +124,13 @@ module _ (ok : ℕ → Bool) (k n : ℕ) (one : 1 ≤ n) (allowed : Allowed n ok
         ];
       }
 
--- a cursor keeps its n
-at-n : (k n : ℕ) (ws : List (List ℕ)) (p : ℕ) → atFrom k n ws p .n ≡ n
-at-n k n [] p = refl
-at-n k n (w ∷ ws) p = elim (test (ltb p (length w))) [ inl t ↦ rw (t, atFrom) | inr t ↦ rw (t, atFrom) (at-n k n ws (p - length w)) ]
+-- a cursor keeps its k and n: the one at a position, and the one that has moved
+pub at-kept : (k n : ℕ) (ws : List (List ℕ)) (p : ℕ) → (atFrom k n ws p .k ≡ k) × (atFrom k n ws p .n ≡ n)
+at-kept k n [] p = (refl, refl)
+at-kept k n (w ∷ ws) p = elim (test (ltb p (length w))) [ inl t ↦ rw (t, atFrom) (refl, refl) | inr t ↦ rw (t, atFrom) (at-kept k n ws (p - length w)) ]
 
-step-n : (ok : ℕ → Bool) (c : Cursor) → stepOn ok c .cursor-is .n ≡ c .n
-step-n ok c = elim (test (ltb (suc (c .place)) (length (c .word)))) [ inl t ↦ rw t | inr t ↦ rw t ]
+pub step-kept : (ok : ℕ → Bool) (c : Cursor) → (stepOn ok c .cursor-is .k ≡ c .k) × (stepOn ok c .cursor-is .n ≡ c .n)
+step-kept ok c = elim (test (ltb (suc (c .place)) (length (c .word)))) [ inl t ↦ rw t (refl, refl) | inr t ↦ rw t (refl, refl) ]
 
 pub ring-cursors : (ok : ℕ → Bool) (k n : ℕ) → 2 ≤ k → 1 ≤ n → Allowed n ok → Cursors-on ok k n
 ring-cursors ok k n two one a = cursors-on ok k n one a (passed-bound ok k n two one a)
@@ -139,7 +139,7 @@ ring-cursors ok k n two one a = cursors-on ok k n one a (passed-bound ok k n two
 pub cursors : Cursors
 cursors = record {
   there = λ k n p two one h.
-      subst (λ m. (goodOn (divisorOf m) (cursorAt k n p) ≡ true) × (positionOn (divisorOf m) (cursorAt k n p) ≡ p)) (sym (at-n k n (stripWords k n) p))
+      subst (λ m. (goodOn (divisorOf m) (cursorAt k n p) ≡ true) × (positionOn (divisorOf m) (cursorAt k n p) ≡ p)) (sym (at-kept k n (stripWords k n) p .1))
       (on k n two one .there p (subst (λ m. p < m) (sym (strip-long k n two one)) h));
   within = λ c two one g. subst (λ m. placeIn c < m) (strip-long _ _ two one) (on _ _ two one .within c refl refl g);
   one = λ c two one g. on _ _ two one .one c refl refl g;
@@ -147,8 +147,8 @@ cursors = record {
       let (a, b, d, e, f) = on _ _ two one .onward c refl refl g in
       let next = stepOf c .cursor-is in (
         a ∙ ap (λ m. letterOn m (strip (c .k) (c .n)) (placeIn c)) (strip-long _ _ two one),
-        ap (λ m. goodOn (divisorOf m) next) (step-n (divisorOf (c .n)) c) ∙ b,
-        ap (λ m. positionOn (divisorOf m) next) (step-n (divisorOf (c .n)) c) ∙ d ∙ ap (λ m. modulo (suc (placeIn c)) m) (strip-long _ _ two one),
+        ap (λ m. goodOn (divisorOf m) next) (step-kept (divisorOf (c .n)) c .1) ∙ b,
+        ap (λ m. positionOn (divisorOf m) next) (step-kept (divisorOf (c .n)) c .1) ∙ d ∙ ap (λ m. modulo (suc (placeIn c)) m) (strip-long _ _ two one),
         e,
         f,
       );
