@@ -73,7 +73,7 @@ keeps : {m f r : ℕ} {t t′ : List ℕ} → Answers m f t t′ r → Keeps m t
 keeps {m = m} {f = zero} {r = r} {t = t} {t′ = t′} (answers b long e) = elim (test (ltb (length t) (length b))) [ inl h ↦ as-before (rw h at e .1) | inr h ↦ answer h ]
   where
     as-before : t′ ≡ t → Keeps m t t′ r
-    as-before x = (λ _. x, ap length x, ap (drop m) x)
+    as-before x = (λ _. x, ap length x, rw x)
 
     answer : ltb (length t) (length b) ≡ false → Keeps m t t′ r
     answer h =
@@ -83,7 +83,7 @@ keeps {m = m} {f = zero} {r = r} {t = t} {t′ = t′} (answers b long e) = elim
         (λ some. absurd (some none), ap length x ∙ over-length b t (ltb-false (length t) (length b) h), ap₂ drop (sym size) x ∙ drop-append-seam b (drop (length b) t) ∙ ap (λ i. drop i t) size)
 keeps {m = m} {f = suc f} {r = r} {t = t} {t′ = t′} (answers b long e) =
     let x : t′ ≡ t = rw (ne-eqb (suc f) 0 (λ z. omega arith)) at e .1 in
-    (λ _. x, ap length x, ap (drop m) x)
+    (λ _. x, ap length x, rw x)
 
 -- its number
 pub answer-number : {m f r : ℕ} {t t′ : List ℕ} → Answers m f t t′ r → r ≡ firstOf f (when (ltb (length t) m) 6)
