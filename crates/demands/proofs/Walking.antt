@@ -14,9 +14,8 @@ use Rattle.theory.specs.Rings.{Cursor, modulo, passedTo}
 use Rattle.theory.specs.Strips.{admitted, strip, markAt, marksFrom, cursorOk, cursorAt, placeIn, stepOf, stripWords, divisorOf, stripFault}
 use Rattle.theory.proofs.Base.{and-in, and-l, and-r}
 use Rattle.theory.proofs.Cursors.{cursors, at-kept, step-kept}
-use Rattle.theory.proofs.Reading.{modulo-small, modulo-lt, modulo-modulo, modulo-suc, letters-modulo}
+use Rattle.theory.proofs.Reading.{modulo-small, modulo-lt, modulo-modulo, modulo-plus, modulo-suc, letters-modulo}
 use Rattle.shape.proofs.Limits.{Limits, admitted-limits, limits-admit}
-use Rattle.rings.proofs.Printing.{modulo-plus}
 use Rattle.calls.specs.declared.Value as DV
 use Rattle.calls.specs.Refusals.{placeFault}
 use Rattle.calls.proofs.Checks.{strip-admits}

@@ -3,7 +3,7 @@ use mathlib.Core.Path.{_≡_, refl, sym, _∙_, ap, ap₂, subst}
 use mathlib.Core.List.{List, _∷_, _++_, append-nil}
 use Prim.Native.Nat.{ℕ, zero, suc, _+_, _-_, _^_, _≤_, _<_}
 use native.Mathlib.Omega.{arith}
-use native.Mathlib.Nat.{add-zero, mod-add-mod}
+use native.Mathlib.Nat.{add-zero}
 use lib.ListN.{length, getD, take, drop, length-take, length-drop, take-append-drop}
 use lib.Seq.{length-take-le, take-append-seam, take-at, drop-at, take-add, drop-length, drop-cons}
 use borrow.Rule.Slice.PartMut.{putMid}
@@ -13,7 +13,7 @@ use Rattle.theory.specs.Rings.{modulo, letterOn, cursor, beforeW, divides}
 use Rattle.theory.specs.Strips.{divisorOf, stripWords, strip, marksFrom, placeIn}
 use Rattle.theory.proofs.Divisors.{divides-le}
 use Rattle.theory.proofs.Listed.{ring-ascend, strip-words}
-use Rattle.theory.proofs.Reading.{modulo-small, modulo-full, letters-length, letters-split, letters-same}
+use Rattle.theory.proofs.Reading.{modulo-small, modulo-full, modulo-plus, letters-length, letters-split, letters-same}
 use Rattle.theory.proofs.Rings.{strip-long}
 use Rattle.theory.proofs.Joined.{After, onward as after-larger, around as after-last, word-inside, word-letter, word-after}
 use Rattle.shape.specs.declared.Strip as DS
@@ -28,10 +28,6 @@ use Rattle.rings.proofs.Ways.{after, after-in, listed-some, strip-liste
 -- as many letters as are taken
 pub take-counted : (m : ℕ) (w : List ℕ) → take (length (take m w)) w ≡ take m w
 take-counted m w = ap (take (length (take m w))) (sym (take-append-drop m w)) ∙ take-append-seam (take m w) (drop m w)
-
-pub modulo-plus : (p g m : ℕ) → modulo (p + g) m ≡ modulo (modulo p m + g) m
-modulo-plus p g zero = refl
-modulo-plus p g (suc m) = sym (mod-add-mod p (suc m) g)
 
 module _ (k n : ℕ) (two : 2 ≤ k) (one : 1 ≤ n) where
   place-small : (u : List ℕ) (at : ℕ) → In u (stripWords k n) → at < length u → placeIn (cursor k n u at) < k ^ n

@@ -20,7 +20,7 @@ use Rattle.theory.proofs.Listed.{lyndon-up-words, ring-ascend, strip-words}
 use Rattle.theory.proofs.Next.{member-in, below-top}
 use Rattle.theory.proofs.Tops.{one-less}
 use Rattle.theory.proofs.Steps.{steps}
-use Rattle.theory.proofs.Passed.{not-top, ring-listed, passed-bound}
+use Rattle.theory.proofs.Passed.{not-top, ring-listed, passed-few}
 use Rattle.theory.proofs.Joined.{After, onward as after-larger, around as after-last, word-after}
 
 -- where a list has a word above w, the word after w is above it
@@ -131,7 +131,7 @@ module _ (k n : ℕ) (two : 2 ≤ k) (one : 1 ≤ n) where
           let near : upTo (nextLyndon k n x) (after k n u) ≡ true = s .next-least x (after k n u) m (strip-listed j) (lt-below l) in
           let fall : left k n u x ≡ suc (left k n u (nextLyndon k n x)) = s .passed-step x (after k n u) m top near in
           moved (s .next-in x m top) (le-lt-trans a (below-lt x (nextLyndon k n x) (s .next-larger x m top))) (upTo-le (nextLyndon k n x) (after k n u) near) h fall (omega arith)
-          (passed-bound (divisorOf n) k n two one (divisors-allowed n one) u (after k n u) i j (lt-below h) (λ y p g. le-upTo (f y p (below-lt u y g))))
+          (passed-few (divisorOf n) k n two one (divisors-allowed n one) u (after k n u) (strip-listed i) (strip-listed j) (lt-below h) (λ y p g. le-upTo (f y p (below-lt u y g))))
 
   -- a word whose length divides n is the one that is looked for
   pub arrived : (u y : List ℕ) → In u (stripWords k n) → In y (lyndonsUp k n) → Lt u y → Le y (after k n u) → divides (length y) n ≡ true → y ≡ after k n u

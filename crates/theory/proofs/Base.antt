@@ -33,6 +33,10 @@ pub and-true : (b : Bool) → (b && true) ≡ b
 and-true true = refl
 and-true false = refl
 
+pub and-swap : (a b : Bool) → (a && b) ≡ (b && a)
+and-swap true b = sym (and-true b)
+and-swap false b = sym (and-false b false refl)
+
 pub or-right : (a b : Bool) → b ≡ true → (a || b) ≡ true
 or-right true b h = refl
 or-right false b h = h

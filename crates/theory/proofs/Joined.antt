@@ -5,16 +5,16 @@ use mathlib.Core.List.{List, [], _∷_, _++_, append-assoc}
 use mathlib.Core.Logic.{inl, inr}
 use Prim.Native.Nat.{ℕ, _+_, _-_, _<_}
 use native.Mathlib.Omega.{arith}
-use native.Mathlib.Nat.{zero-add}
+use native.Mathlib.Nat.{zero-add, add-zero}
 use lib.Dec.{ltb}
 use lib.ListN.{length, getD, length-append, List·getD-append}
-use lib.Seq.{getD-append-add}
+use lib.Seq.{getD-append-add, getD-append-seam}
 use borrow.Author.Tests.{ltb-true, ltb-false, lt-ltb, le-ltb}
 use Rattle.theory.specs.Words.{same}
 use Rattle.theory.specs.Lists.{In, here, there, Ascending}
-use Rattle.theory.specs.Rings.{joined, cursor, beforeW, atFrom, firstAfter}
-use Rattle.theory.proofs.Base.{test}
-use Rattle.theory.proofs.Lists.{in-mid, found, in-split, ascend-right, joined-append}
+use Rattle.theory.specs.Rings.{joined, cursor, beforeW, atFrom, firstAfter, lastBefore}
+use Rattle.theory.proofs.Base.{test, unsnoc}
+use Rattle.theory.proofs.Lists.{in-append-right, in-append-cases, in-mid, found, in-split, ascend-right, ascend-before, joined-append}
 use Rattle.theory.proofs.Order.{Lt, Le, same-refl, ne-same, below-lt, lt-le, lt-irrefl, lt-asym, le-refl, eq-le, le-not-below}
 
 -- an ascending list that holds w, from either side of w
@@ -112,6 +112,66 @@ after-next a w v b t = onward (subst (λ r. In v r) e (in-mid (a ++ (w ∷ [])) 
         ap (λ r. beforeW v r) (sym e) ∙ before-is (a ++ (w ∷ [])) v b (subst Ascending (sym e) t)
         ∙ joined-both a (w ∷ []) ∙ omega (arith, length-append w [])
 
+-- the word before: the last of the list that is below it, or, before the first, the last of all
+last-skips : (w : List ℕ) (b : List (List ℕ)) (v : List ℕ) → Ascending (w ∷ b) → lastBefore w (w ∷ b) v ≡ v
+last-skips w b v s = rw (le-not-below (le-refl w), lastBefore) (rest b (λ y i. below-lt w y (s .0 y i)))
+  where
+    rest : (b : List (List ℕ)) → ((y : List ℕ) → In y b → Lt w y) → lastBefore w b v ≡ v
+    rest [] f = refl
+    rest (u ∷ b) f = rw (le-not-below (lt-le (f u (here refl))), lastBefore) (rest b (λ y i. f y (there i)))
+
+last-next : (a : List (List ℕ)) (u w : List ℕ) (b : List (List ℕ)) (v : List ℕ) → Ascending (a ++ (u ∷ (w ∷ b))) → lastBefore w (a ++ (u ∷ (w ∷ b))) v ≡ u
+last-next [] u w b v s = rw (s .0 w (here refl), lastBefore) (last-skips w b u (s .1))
+last-next (x ∷ a) u w b v s = rw (s .0 w (in-append-right a (there (here refl))), lastBefore) (last-next a u w b x (s .1))
+
+last-of : (a : List (List ℕ)) (v : List ℕ) → let ws = a ++ (v ∷ []) in getD ws (length ws - 1) [] ≡ v
+last-of a v =
+    let n : length (a ++ (v ∷ [])) - 1 ≡ length a = omega (arith, length-append a (v ∷ [])) in
+    ap (λ i. getD (a ++ (v ∷ [])) i []) n ∙ getD-append-seam a v [] []
+
+-- v comes before w: the largest smaller word, right in front of w, or, w being the first, the last
+pub data Before (w : List ℕ) (ws : List (List ℕ)) (here-is : ℕ) (v : List ℕ) : Type 0 where
+  backward : In v ws → Lt v w → ((y : List ℕ) → In y ws → Lt y w → Le y v) → beforeW v ws + length v ≡ here-is → Before w ws here-is v
+  from-end : In v ws → ((y : List ℕ) → In y ws → Le w y × Le y v) → here-is ≡ 0 → beforeW v ws + length v ≡ length (joined ws) → Before w ws here-is v
+
+before-next : (a : List (List ℕ)) (u w : List ℕ) (b : List (List ℕ)) → Ascending (a ++ (u ∷ (w ∷ b)))
+    → Before w (a ++ (u ∷ (w ∷ b))) (length (joined (a ++ (u ∷ [])))) u
+before-next a u w b t = backward (in-mid a (w ∷ b)) (below-lt u w (later .0 w (here refl))) most (omega (arith, before-is a u (w ∷ b) t, joined-both a (u ∷ []), length-append u []))
+  where
+    later : Ascending (u ∷ (w ∷ b))
+    later = ascend-right a (u ∷ (w ∷ b)) t
+
+    most : (y : List ℕ) → In y (a ++ (u ∷ (w ∷ b))) → Lt y w → Le y u
+    most y i l = elim (in-append-cases a i) [
+      | inl j ↦ lt-le (ascend-before a (w ∷ b) t y j)
+      | inr (here e) ↦ eq-le e
+      | inr (there (here e)) ↦ absurd (lt-irrefl (subst (λ r. Lt r w) e l))
+      | inr (there (there j)) ↦ absurd (lt-asym l (below-lt w y (later .1 .0 y j)))
+    ]
+
+before-first : (w : List ℕ) (b : List (List ℕ)) → Ascending (w ∷ b) → Before w (w ∷ b) 0 (getD (w ∷ b) (length (w ∷ b) - 1) [])
+before-first w b t = let (a, v, e) = unsnoc (w ∷ b) (omega arith) in at a v e
+  where
+    first : {y : List ℕ} → In y (w ∷ b) → Le w y
+    first (here e) = eq-le (sym e)
+    first {y} (there j) = lt-le (below-lt w y (t .0 y j))
+
+    at : (a : List (List ℕ)) (v : List ℕ) → w ∷ b ≡ a ++ (v ∷ []) → Before w (w ∷ b) 0 (getD (w ∷ b) (length (w ∷ b) - 1) [])
+    at a v e = subst (Before w (w ∷ b) 0) (sym (ap (λ r. getD r (length r - 1) []) e ∙ last-of a v)) (from-end into (λ y i. (first i, last y (subst (In y) e i))) refl ends)
+      where
+        up : Ascending (a ++ (v ∷ []))
+        up = subst Ascending e t
+
+        into : In v (w ∷ b)
+        into = subst (In v) (sym e) (in-mid a [])
+
+        last : (y : List ℕ) → In y (a ++ (v ∷ [])) → Le y v
+        last y i = elim (in-append-cases a i) [ inl j ↦ lt-le (ascend-before a [] up y j) | inr (here q) ↦ eq-le q ]
+
+        ends : beforeW v (w ∷ b) + length v ≡ length (joined (w ∷ b))
+        ends =
+            ap (λ r. beforeW v r + length v) e ∙ ap (λ i. i + length v) (before-is a v [] up) ∙ sym (ap (λ r. length (joined r)) e ∙ joined-both a (v ∷ []) ∙ ap (λ i. length (joined a) + i) (length-append v [] ∙ add-zero (length v)))
+
 module _ (ws : List (List ℕ)) (s : Ascending ws) where
   -- what a split list shows of its member
   member : (P : List (List ℕ) → ℕ → Type 0) {w : List ℕ} → In w ws
@@ -144,3 +204,20 @@ module _ (ws : List (List ℕ)) (s : Ascending ws) where
       split : (a b : List (List ℕ)) → Ascending (a ++ (w ∷ b)) → After w (a ++ (w ∷ b)) (length (joined a)) (firstAfter w (a ++ (w ∷ b)) (a ++ (w ∷ b)))
       split a [] t = rw (first-last a w _ t) (after-last a w t)
       split a (v ∷ b) t = rw (first-next a w v b _ t) (after-next a w v b t)
+
+  pub word-before : (w : List ℕ) → In w ws → Before w ws (beforeW w ws) (lastBefore w ws (getD ws (length ws - 1) []))
+  word-before w i = member (λ r m. Before w r m (lastBefore w r (getD r (length r - 1) []))) i split
+    where
+      split : (a b : List (List ℕ)) → Ascending (a ++ (w ∷ b))
+          → let r = a ++ (w ∷ b) in Before w r (length (joined a)) (lastBefore w r (getD r (length r - 1) []))
+      split [] b t = subst (Before w (w ∷ b) 0) (sym (last-skips w b _ t)) (before-first w b t)
+      split (x ∷ c) b t = let (a, u, e) = unsnoc (x ∷ c) (omega arith) in inner a u e
+        where
+          inner : (a : List (List ℕ)) (u : List ℕ) → x ∷ c ≡ a ++ (u ∷ [])
+              → let r = (x ∷ c) ++ (w ∷ b) in Before w r (length (joined (x ∷ c))) (lastBefore w r (getD r (length r - 1) []))
+          inner a u e =
+              let f : (x ∷ c) ++ (w ∷ b) ≡ a ++ (u ∷ (w ∷ b)) = ap (λ y. y ++ (w ∷ b)) e ∙ append-assoc a (u ∷ []) (w ∷ b) in
+              let up : Ascending (a ++ (u ∷ (w ∷ b))) = subst Ascending f t in
+              subst (λ y. Before w ((x ∷ c) ++ (w ∷ b)) (length (joined y)) (lastBefore w ((x ∷ c) ++ (w ∷ b)) (getD ((x ∷ c) ++ (w ∷ b)) (length ((x ∷ c) ++ (w ∷ b)) - 1) []))) (sym e)
+              (subst (λ r. Before w r (length (joined (a ++ (u ∷ [])))) (lastBefore w r (getD r (length r - 1) []))) (sym f)
+              (subst (Before w (a ++ (u ∷ (w ∷ b))) (length (joined (a ++ (u ∷ []))))) (sym (last-next a u w b _ up)) (before-next a u w b up)))

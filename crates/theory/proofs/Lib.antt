@@ -27,6 +27,7 @@ pub mod Windows
 pub mod Places
 pub mod Rings
 pub mod Cursors
+pub mod Back
 pub mod Laying
 pub mod Levels
 pub mod Primes

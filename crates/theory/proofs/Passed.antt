@@ -44,13 +44,13 @@ full-in-ring ok k n {w} a i e =
     let r = lyndon-up-words k n w .0 i in
     ring-words ok k n w .1 (r .0, r .1, r .2, ap ok e ∙ a .whole)
 
--- from a ring's word u to its next, v: after the first step each goes to a longer word, until length n is reached
-module _ (ok : ℕ → Bool) (k n : ℕ) (h : 2 ≤ k) (g : 1 ≤ n) (a : Allowed n ok) (u v : List ℕ) (i : In v (ringWords ok k n))
+-- from a word u to v, up to which no word of the ring is between: after the first step each goes to a longer word, until length n is reached
+module _ (ok : ℕ → Bool) (k n : ℕ) (h : 2 ≤ k) (g : 1 ≤ n) (a : Allowed n ok) (u v : List ℕ) (i : In v (lyndonsUp k n))
     (nearest : (y : List ℕ) → In y (ringWords ok k n) → below u y ≡ true → upTo v y ≡ true) where
   passed-from : (fuel : ℕ) (x : List ℕ) → n < length x + fuel → In x (lyndonsUp k n) → Lt u x → Le x v → passedBy x v (lyndonsUp k n) + length x ≤ n
   passed-from zero x f j p q = absurd (omega (arith, lyndon-up-words k n x .0 j .0))
   passed-from (suc fuel) x f j p q = elim (le-cases q) [
-    | inl r ↦ elim (on-step h (steps k n h g) j (ring-listed ok k n i) r) [ on y c d b e m ↦ omega (arith, m, e (shorter r), passed-from fuel y (omega (arith, e (shorter r))) c (lt-trans p d) b) ]
+    | inl r ↦ elim (on-step h (steps k n h g) j i r) [ on y c d b e m ↦ omega (arith, m, e (shorter r), passed-from fuel y (omega (arith, e (shorter r))) c (lt-trans p d) b) ]
     | inr r ↦ omega (arith, ap (λ w. passedBy w v (lyndonsUp k n)) r ∙ steps k n h g .passed-none v, lyndon-up-words k n x .0 j .0)
   ]
     where
@@ -61,9 +61,14 @@ module _ (ok : ℕ → Bool) (k n : ℕ) (h : 2 ≤ k) (g : 1 ≤ n) (a : Allowe
         | more e ↦ absurd (omega (arith, lyndon-up-words k n x .0 j .0))
       ]
 
-pub passed-bound : (ok : ℕ → Bool) (k n : ℕ) → 2 ≤ k → 1 ≤ n → Allowed n ok → (u v : List ℕ) → In u (ringWords ok k n) → In v (ringWords ok k n) → below u v ≡ true
+-- no more words than n are passed up to a word with no word of the ring before it
+abbrev pub Few : (ℕ → Bool) → ℕ → ℕ → Type 0
+Few ok k n =
+    (u v : List ℕ) → In u (lyndonsUp k n) → In v (lyndonsUp k n) → below u v ≡ true
     → ((y : List ℕ) → In y (ringWords ok k n) → below u y ≡ true → upTo v y ≡ true) → passedBy u v (lyndonsUp k n) ≤ n
-passed-bound ok k n h g a u v i j l f =
-    elim (on-step h (steps k n h g) (ring-listed ok k n i) (ring-listed ok k n j) (below-lt u v l)) [
+
+pub passed-few : (ok : ℕ → Bool) (k n : ℕ) → 2 ≤ k → 1 ≤ n → Allowed n ok → Few ok k n
+passed-few ok k n h g a u v i j l f =
+    elim (on-step h (steps k n h g) i j (below-lt u v l)) [
       | on y c d b e m ↦ omega (arith, m, lyndon-some y (lyndon-up-words k n y .0 c .2), passed-from ok k n h g a u v j f (suc n) y (omega arith) c d b)
     ]

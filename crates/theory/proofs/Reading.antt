@@ -5,12 +5,12 @@ use mathlib.Core.List.{List, _∷_, _++_, append-assoc}
 use mathlib.Core.Logic.{inl, inr}
 use Prim.Native.Nat.{ℕ, zero, suc, _+_, _-_, _%_, _≤_, _<_}
 use native.Mathlib.Omega.{arith}
-use native.Mathlib.Nat.{mod-lt, mod-eq-of-lt, mod-self, mod-mod, suc-mod, add-mod-right, add-comm, add-zero, add-suc, zero-add, suc-add}
+use native.Mathlib.Nat.{mod-lt, mod-eq-of-lt, mod-self, mod-mod, mod-add-mod, suc-mod, add-mod-right, add-comm, add-zero, add-suc, zero-add, suc-add}
 use lib.ListN.{length, getD, take, drop, length-append, List·getD-append}
 use lib.Seq.{take-append-seam, take-append-add, drop-append-seam, drop-cons, getD-append-add}
 use borrow.Author.Tests.{lt-ltb}
 use Rattle.theory.specs.Words.{same, marksOk}
-use Rattle.theory.specs.Rings.{modulo, letterOn, lettersOn, findOn}
+use Rattle.theory.specs.Rings.{modulo, letterOn, lettersOn, findOn, beside}
 use Rattle.theory.proofs.Base.{test, and-in, less, equal, more, cmp, upto, over, split}
 use Rattle.theory.proofs.Order.{same-eq, same-ne}
 use Rattle.theory.proofs.Letters.{marks-getD}
@@ -41,6 +41,30 @@ modulo-modulo p (suc m) = mod-mod p (suc m)
 pub modulo-suc : (p m : ℕ) → modulo (suc p) m ≡ modulo (suc (modulo p m)) m
 modulo-suc p zero = refl
 modulo-suc p (suc m) = suc-mod p (suc m)
+
+pub modulo-plus : (p g m : ℕ) → modulo (p + g) m ≡ modulo (modulo p m + g) m
+modulo-plus p g zero = refl
+modulo-plus p g (suc m) = sym (mod-add-mod p (suc m) g)
+
+-- the position before
+pub beside-down : (p m : ℕ) → 0 < p → p < m → beside m false p ≡ p - 1
+beside-down p m h g =
+    let e : p + (m - 1) ≡ (p - 1) + m = omega arith in
+    ap (λ i. modulo i m) e ∙ modulo-add (p - 1) m ∙ modulo-small (p - 1) m (omega arith)
+
+pub beside-round : (m : ℕ) → 0 < m → beside m false 0 ≡ m - 1
+beside-round m h = let e : 0 + (m - 1) ≡ m - 1 = omega arith in ap (λ i. modulo i m) e ∙ modulo-small (m - 1) m (omega arith)
+
+-- there and back
+pub beside-back : (p m : ℕ) → p < m → beside m false (beside m true p) ≡ p
+beside-back p m h =
+    let e : suc p + (m - 1) ≡ p + m = omega arith in
+    sym (modulo-plus (suc p) (m - 1) m) ∙ ap (λ i. modulo i m) e ∙ modulo-add p m ∙ modulo-small p m h
+
+pub beside-again : (p m : ℕ) → p < m → beside m true (beside m false p) ≡ p
+beside-again p m h =
+    let e : suc (p + (m - 1)) ≡ p + m = omega arith in
+    sym (modulo-suc (p + (m - 1)) m) ∙ ap (λ i. modulo i m) e ∙ modulo-add p m ∙ modulo-small p m h
 
 -- so many letters; reading on; the positions count up to the size
 pub letters-length : (m : ℕ) (s : List ℕ) (p c : ℕ) → length (lettersOn m s p c) ≡ c

@@ -1,6 +1,6 @@
 -- Periods of extensions, the step back to the Lyndon word before, and the record Steps (document 003, section 1.4.2).
 use mathlib.Core.Path.{_≡_, refl, sym, _∙_, ap, ap₂, subst, subst₂}
-use mathlib.Core.Bool.{true, false, _&&_}
+use mathlib.Core.Bool.{Bool, true, false, _&&_}
 use mathlib.Core.List.{List, [], _∷_, _++_, append-assoc}
 use mathlib.Core.Logic.{_⊎_, inl, inr, _≢_}
 use Prim.Native.Nat.{ℕ, zero, suc, _+_, _-_, _≤_, _<_}
@@ -9,13 +9,13 @@ use lib.ListN.{length, take, drop, replicate, length-append, take-append-drop}
 use lib.Seq.{take-append-seam, drop-append-seam, length-take-le}
 use borrow.Author.Tests.{lt-ltb}
 use Rattle.theory.specs.Words.{same, below, upTo}
-use Rattle.theory.specs.Lists.{In, here, there}
-use Rattle.theory.specs.Rings.{lyndonsUp, passedBy}
+use Rattle.theory.specs.Lists.{In, here, there, Ascending, Once}
+use Rattle.theory.specs.Rings.{lyndonsUp, passedBy, passedBack}
 use Rattle.theory.specs.Steps.{extension, nextLyndon, lowered, periodFrom, period, previousLyndon}
 use Rattle.theory.specs.Theorems.{Steps}
 use Rattle.theory.specs.Prenecklaces.{Cut}
-use Rattle.theory.proofs.Base.{test, and-in, less, equal, more, cmp, levi, longer, shorter}
-use Rattle.theory.proofs.Order.{Lt, short, now, later, Le, Prefix, prefix, is-lt, is-eq, is-gt, tri, eq-same, ne-same, lt-below, below-lt, lt-irrefl, lt-asym, lt-le, le-refl, eq-le, le-cases, le-trans, le-not-lt, not-below, le-not-below, lt-not-upTo, le-upTo, cut-append, cut-not-prefix}
+use Rattle.theory.proofs.Base.{test, and-in, and-false, and-swap, less, equal, more, cmp, levi, longer, shorter}
+use Rattle.theory.proofs.Order.{Lt, short, now, later, Le, Prefix, prefix, is-lt, is-eq, is-gt, tri, eq-same, ne-same, same-eq, same-ne, not-lt, lt-below, below-lt, lt-irrefl, lt-asym, lt-le, le-refl, eq-le, le-cases, le-trans, le-not-lt, not-below, le-not-below, lt-not-upTo, le-upTo, cut-append, cut-not-prefix}
 use Rattle.theory.proofs.Lyndon.{Lyndon, one-letter}
 use Rattle.theory.proofs.Powers.{Extends, behind, extends-long, extension-length, extension-extends}
 use Rattle.theory.proofs.Listed.{lyndon-up-ascend}
@@ -65,8 +65,9 @@ lowered-last [] a = ap (λ r. r ∷ []) (one-less a)
 lowered-last (b ∷ []) a = ap (λ r. b ∷ r) (lowered-last [] a)
 lowered-last (b ∷ (d ∷ p)) a = ap (λ r. b ∷ r) (lowered-last (d ∷ p) a)
 
-pub step-back : {z n : ℕ} {x : List ℕ} → Member z n x → Step z n x → previousLyndon (suc z) n (nextLyndon (suc z) n x) ≡ x
-step-back {z} {n} {x} m (step p a t l e f) = ap (previousLyndon (suc z) n) f ∙ ap (λ c. take (period c) c) filled ∙ first-period (m .lyndon) (extension-extends n x) (omega (arith, m .fits, extension-length n x (m .lyndon .some)))
+pub back-extension : {z n : ℕ} {x : List ℕ} → Member z n x → Step z n x
+    → let y = nextLyndon (suc z) n x in lowered y ++ replicate (n - length y) (suc z - 1) ≡ extension n x
+back-extension {z} {n} {x} m (step p a t l e f) = ap (λ y. lowered y ++ replicate (n - length y) (suc z - 1)) f ∙ filled
   where
     rest : n - length (p ++ (suc a ∷ [])) ≡ t
     rest = omega (arith, step-size m p a t l e, length-append p (suc a ∷ []))
@@ -74,6 +75,11 @@ step-back {z} {n} {x} m (step p a t l e f) = ap (previousLyndon (suc z) n) f ∙
     filled : lowered (p ++ (suc a ∷ [])) ++ replicate (n - length (p ++ (suc a ∷ []))) (suc z - 1) ≡ extension n x
     filled =
         ap₂ _++_ (lowered-last p a) (ap₂ replicate rest (one-less z)) ∙ append-assoc p (a ∷ []) (replicate t z) ∙ sym e
+
+step-back : {z n : ℕ} {x : List ℕ} → Member z n x → Step z n x → previousLyndon (suc z) n (nextLyndon (suc z) n x) ≡ x
+step-back {z} {n} {x} m s =
+    ap (λ c. take (period c) c) (back-extension m s)
+    ∙ first-period (m .lyndon) (extension-extends n x) (omega (arith, m .fits, extension-length n x (m .lyndon .some)))
 
 -- the last word of a list, or b, before y
 data Latest (y : List ℕ) (ws : List (List ℕ)) (b : List ℕ) : Type 0 where
@@ -163,6 +169,55 @@ passed-none v (w ∷ ws) = elim (test (below v w)) [
   | inr t ↦ rw t (passed-none v ws)
 ]
 
+-- as many back: both ways one more than the words strictly between
+passed-both : (u v : List ℕ) (ws : List (List ℕ)) → Ascending ws → In u ws → In v ws → Lt u v → passedBack v u ws ≡ passedBy u v ws
+passed-both u v ws up i j l =
+    keep-one-more (λ w. below w v && upTo u w) between once i (and-in (lt-below l) (le-upTo (le-refl u))) (ap (λ b. b && below u v) (le-not-below (le-refl u)))
+    (λ w _ q. ap (λ b. below w v && b) (strict (λ e. q (sym e))) ∙ and-swap (below w v) (below u w))
+    ∙ sym (keep-one-more (λ w. below u w && upTo w v) between once j (and-in (lt-below l) (le-upTo (le-refl v))) (and-false (below u v) _ (le-not-below (le-refl v)))
+    (λ w _ q. ap (λ b. below u w && b) (strict q)))
+  where
+    between : List ℕ → Bool
+    between w = below u w && below w v
+
+    once : Once ws
+    once = ascend-once ws up
+
+    strict : {x y : List ℕ} → x ≢ y → upTo x y ≡ below x y
+    strict q = rw (ne-same q) refl
+
+-- the word before y
+record Before (z n : ℕ) (y : List ℕ) : Type 0 where
+  member : Member z n (previousLyndon (suc z) n y)
+  inner : previousLyndon (suc z) n y ≢ z ∷ []
+  then : nextLyndon (suc z) n (previousLyndon (suc z) n y) ≡ y
+
+before : {z n : ℕ} {y : List ℕ} → 1 ≤ n → Member z n y → y ≢ 0 ∷ [] → Before z n y
+before {z} {n} {y} g m h = elim (previous-of g m h) [
+  | previous x w r e ↦
+      let is : previousLyndon (suc z) n y ≡ x = ap (previousLyndon (suc z) n) (sym e) ∙ step-back w (step-of w r) in
+      record { member = subst (Member z n) (sym is) w; inner = λ q. r (sym is ∙ q); then = ap (nextLyndon (suc z) n) is ∙ e }
+]
+
+-- nothing of the list is between it and y
+before-most : {z n : ℕ} {x y : List ℕ} → Before z n y → Member z n x → Lt x y → Le x (previousLyndon (suc z) n y)
+before-most {z} {n} {x} {y} b m l = not-lt (λ r. le-not-lt (subst (λ w. Le w x) (b .then) (next-nearest (b .member) m r)) l)
+
+-- the least word of the list has none before it
+not-zero : {x y : List ℕ} → 0 < length x → Lt x y → y ≢ 0 ∷ []
+not-zero {x} h l e = elim (test (same x (0 ∷ []))) [
+  | inl t ↦ lt-irrefl (subst (λ w. Lt w (0 ∷ [])) (same-eq x (0 ∷ []) t) (subst (λ w. Lt x w) e l))
+  | inr t ↦ lt-asym (subst (λ w. Lt x w) e l) (zero-first x h (same-ne t))
+]
+
+-- y, lowered and filled up with k−1, extends the word before it
+pub previous-extension : (k n : ℕ) (y : List ℕ) → 2 ≤ k → 1 ≤ n → In y (lyndonsUp k n) → y ≢ 0 ∷ []
+    → lowered y ++ replicate (n - length y) (k - 1) ≡ extension n (previousLyndon k n y)
+previous-extension zero n y two one i h = absurd (omega arith)
+previous-extension (suc z) n y two one i h =
+    let b = before one (member-in z n i) h in
+    ap (λ w. lowered w ++ replicate (n - length w) (suc z - 1)) (sym (b .then)) ∙ back-extension (b .member) (step-of (b .member) (b .inner))
+
 pub steps : (k n : ℕ) → 2 ≤ k → 1 ≤ n → Steps k n
 steps zero n h g = absurd (omega arith)
 steps (suc z) n h g =
@@ -172,12 +227,17 @@ steps (suc z) n h g =
       next-least = λ x y i j l. le-upTo (next-nearest (member-in z n i) (member-in z n j) (below-lt x y l));
       next-longer = λ x i q l. next-long (member-in z n i) (not-last q) l;
       next-none = ap (λ r. nextLyndon (suc z) n (r ∷ [])) (one-less z) ∙ top-next z n;
-      previous-in = λ y i q. elim (previous-of g (member-in z n i) q) [ previous x m r e ↦ member-out z n (subst (Member z n) (sym (previous-is m r) ∙ ap (previousLyndon (suc z) n) e) m) ];
-      previous-next = λ x i q. previous-is (member-in z n i) (not-last q);
-      next-previous = λ y i q. elim (previous-of g (member-in z n i) q) [ previous x m r e ↦ ap (nextLyndon (suc z) n) (ap (previousLyndon (suc z) n) (sym e) ∙ previous-is m r) ∙ e ];
+      previous-in = λ y i q. member-out z n (before g (member-in z n i) q .member);
+      previous-next = λ x i q. step-back (member-in z n i) (step-of (member-in z n i) (not-last q));
+      previous-smaller = λ y i q. let b = before g (member-in z n i) q in subst (λ w. below (previousLyndon (suc z) n y) w ≡ true) (b .then) (lt-below (next-above (b .member) (b .inner)));
+      previous-most = λ x y i j l.
+          let m = member-in z n i in
+          le-upTo (before-most (before g (member-in z n j) (not-zero (m .lyndon .some) (below-lt x y l))) m (below-lt x y l));
+      next-previous = λ y i q. before g (member-in z n i) q .then;
       passed-none = λ v. passed-none v (lyndonsUp (suc z) n);
       passed-step = λ u v i q g. passed-step v (member-in z n i) (not-last q) g;
+      passed-back = λ u v i j. elim (test (below u v)) [
+        | inl t ↦ rw t (passed-both u v (lyndonsUp (suc z) n) (lyndon-up-ascend (suc z) n) i j (below-lt u v t))
+        | inr t ↦ rw t refl
+      ];
     }
-  where
-    previous-is : {x : List ℕ} → Member z n x → x ≢ z ∷ [] → previousLyndon (suc z) n (nextLyndon (suc z) n x) ≡ x
-    previous-is m q = step-back m (step-of m q)

@@ -8,6 +8,7 @@ use Rattle.theory.proofs.Laws.{lyndon-laws}
 use Rattle.theory.proofs.Steps.{steps}
 use Rattle.theory.proofs.Rings.{rings, one-place}
 use Rattle.theory.proofs.Cursors.{ring-cursors, cursors}
+use Rattle.theory.proofs.Back.{both-ways}
 use Rattle.theory.proofs.Laying.{laid, laid-only}
 use Rattle.theory.proofs.BySum.{summed}
 use Rattle.theory.proofs.Floors.{floors}
@@ -26,6 +27,7 @@ theorems =
       steps = steps;
       rings = rings;
       ring-cursors = ring-cursors;
+      both-ways = both-ways;
       one-place = one-place;
       cursors = cursors;
       laid = laid;

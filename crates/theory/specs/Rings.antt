@@ -107,6 +107,14 @@ firstAfter w (u ∷ us) all = elim (below w u) [ true ↦ u | false ↦ firstAft
 abbrev pub nextOn : (ℕ → Bool) → Cursor → List ℕ
 nextOn ok c = let ws = ringWords ok (c .k) (c .n) in firstAfter (c .word) ws ws
 
+-- the ring's word before: the last of a list that is below w, else v; before the first comes the last
+abbrev pub lastBefore : List ℕ → List (List ℕ) → List ℕ → List ℕ
+lastBefore w [] v = v
+lastBefore w (u ∷ us) v = lastBefore w us (pick (below u w) u v)
+
+abbrev pub previousOn : (ℕ → Bool) → Cursor → List ℕ
+previousOn ok c = let ws = ringWords ok (c .k) (c .n) in lastBefore (c .word) ws (getD ws (length ws - 1) [])
+
 -- how many words of a list are after u, up to and with v
 abbrev pub passedBy : List ℕ → List ℕ → List (List ℕ) → ℕ
 passedBy u v ws = length (keep (λ w. below u w && upTo w v) ws)
@@ -115,6 +123,13 @@ passedBy u v ws = length (keep (λ w. below u w && upTo w v) ws)
 -- not after u, which is inside a word and at the wrap
 abbrev pub passedTo : ℕ → ℕ → List ℕ → List ℕ → ℕ
 passedTo k n u v = pick (below u v) (passedBy u v (lyndonsUp k n)) 0
+
+-- the same backwards: those before u, down to and with v; none where v is not before u
+abbrev pub passedBack : List ℕ → List ℕ → List (List ℕ) → ℕ
+passedBack u v ws = length (keep (λ w. below w u && upTo v w) ws)
+
+abbrev pub passedDown : ℕ → ℕ → List ℕ → List ℕ → ℕ
+passedDown k n u v = pick (below v u) (passedBack u v (lyndonsUp k n)) 0
 
 -- a step: the letter that the cursor stood on, the words passed, the moved cursor
 pub record Stepped : Type 0 where
@@ -131,7 +146,43 @@ stepOn ok c =
     (let v = nextOn ok c in
     record { mark = m; passed = passedTo (c .k) (c .n) (c .word) v; cursor-is = cursor (c .k) (c .n) v 0 })
 
+-- a step back: also the letter that the cursor stood on, then the letter before it in the word, or the last of the word before
+abbrev pub backOn : (ℕ → Bool) → Cursor → Stepped
+backOn ok c =
+    let m = getD (c .word) (c .place) 0 in
+    pick
+    (ltb 0 (c .place))
+    (record { mark = m; passed = 0; cursor-is = cursor (c .k) (c .n) (c .word) (c .place - 1) })
+    (let v = previousOn ok c in
+    record { mark = m; passed = passedDown (c .k) (c .n) (c .word) v; cursor-is = cursor (c .k) (c .n) v (length v - 1) })
+
 -- the letters that the next steps of a cursor give
 abbrev pub readOn : (ℕ → Bool) → Cursor → ℕ → List ℕ
 readOn ok c zero = []
 readOn ok c (suc i) = stepOn ok c .mark ∷ readOn ok (stepOn ok c .cursor-is) i
+
+-- both ways: true is a step on, false a step back. The position beside one, round the ring; where a path leads and the letters that it leaves
+abbrev pub beside : ℕ → Bool → ℕ → ℕ
+beside size true p = modulo (suc p) size
+beside size false p = modulo (p + (size - 1)) size
+
+abbrev pub pathEnd : ℕ → List Bool → ℕ → ℕ
+pathEnd size [] p = p
+pathEnd size (d ∷ ds) p = pathEnd size ds (beside size d p)
+
+abbrev pub pathLetters : ℕ → List ℕ → List Bool → ℕ → List ℕ
+pathLetters size s [] p = []
+pathLetters size s (d ∷ ds) p = letterOn size s p ∷ pathLetters size s ds (beside size d p)
+
+-- the same of a cursor that moves so
+abbrev pub moveOn : (ℕ → Bool) → Bool → Cursor → Stepped
+moveOn ok true c = stepOn ok c
+moveOn ok false c = backOn ok c
+
+abbrev pub walkEnd : (ℕ → Bool) → List Bool → Cursor → Cursor
+walkEnd ok [] c = c
+walkEnd ok (d ∷ ds) c = walkEnd ok ds (moveOn ok d c .cursor-is)
+
+abbrev pub walkLetters : (ℕ → Bool) → List Bool → Cursor → List ℕ
+walkLetters ok [] c = []
+walkLetters ok (d ∷ ds) c = moveOn ok d c .mark ∷ walkLetters ok ds (moveOn ok d c .cursor-is)

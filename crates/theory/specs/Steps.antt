@@ -39,3 +39,7 @@ prePeriod w = pick (isLyndon (take (period w) w)) (period w) 0
 -- the word before y: y with its last letter lowered, filled up with k−1 to length n, is its extension
 abbrev pub previousLyndon : ℕ → ℕ → List ℕ → List ℕ
 previousLyndon k n y = let c = lowered y ++ replicate (n - length y) (k - 1) in take (period c) c
+
+-- the same, and nothing before 0, which is the first
+abbrev pub wordBefore : ℕ → ℕ → List ℕ → List ℕ
+wordBefore k n y = pick (same y (0 ∷ [])) [] (previousLyndon k n y)

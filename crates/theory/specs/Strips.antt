@@ -6,7 +6,7 @@ use mathlib.Core.List.{List}
 use Prim.Native.Nat.{ℕ, _^_}
 use lib.Dec.{leb}
 use Rattle.theory.specs.Words.{when}
-use Rattle.theory.specs.Rings.{divides, ringWords, ring, letterOn, lettersOn, findOn, Cursor, Stepped, goodOn, positionOn, cursorOn, nextOn, stepOn}
+use Rattle.theory.specs.Rings.{divides, ringWords, ring, letterOn, lettersOn, findOn, Cursor, Stepped, goodOn, positionOn, cursorOn, nextOn, previousOn, stepOn, backOn}
 
 -- admitted: k from 2 to 36, n from 1 to 60, k^n at most 2^60
 abbrev pub admitted : ℕ → ℕ → Bool
@@ -54,3 +54,9 @@ nextWord c = nextOn (divisorOf (c .n)) c
 
 abbrev pub stepOf : Cursor → Stepped
 stepOf c = stepOn (divisorOf (c .n)) c
+
+abbrev pub previousWord : Cursor → List ℕ
+previousWord c = previousOn (divisorOf (c .n)) c
+
+abbrev pub backOf : Cursor → Stepped
+backOf c = backOn (divisorOf (c .n)) c

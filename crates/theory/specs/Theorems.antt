@@ -1,6 +1,6 @@
 -- What is proved of the definitions, for every k and n that the hypotheses name. `Theorems`, at the end, is the whole.
 use mathlib.Core.Path.{_≡_}
-use mathlib.Core.Bool.{Bool, true, _&&_}
+use mathlib.Core.Bool.{Bool, true, false, _&&_}
 use mathlib.Core.List.{List, [], _∷_, _++_}
 use mathlib.Core.Logic.{_↔_, _≢_}
 use Prim.Native.Nat.{ℕ, suc, _+_, _-_, _*_, _^_, _≤_, _<_}
@@ -13,9 +13,9 @@ use Rattle.theory.specs.Sums.{cs, mobius, divisors, running, rankTerm, c
 use Rattle.theory.specs.Floors.{isNecklace, necklaceUpTo, necklaceBelow, floorFrom}
 use Rattle.theory.specs.Automaton.{run, returning, pathsTo}
 use Rattle.theory.specs.Search.{leastWord}
-use Rattle.theory.specs.Rings.{upWords, lyndonsUp, divides, Allowed, ringWords, ring, modulo, letterOn, lettersOn, Cursor, goodOn, beforeW, positionOn, cursorOn, passedBy, passedTo, stepOn, readOn, windowOn, placeOn}
+use Rattle.theory.specs.Rings.{upWords, lyndonsUp, divides, Allowed, ringWords, ring, modulo, letterOn, lettersOn, Cursor, Stepped, goodOn, beforeW, positionOn, cursorOn, passedBy, passedTo, passedDown, stepOn, backOn, readOn, beside, pathEnd, pathLetters, walkEnd, walkLetters, windowOn, placeOn}
 use Rattle.theory.specs.Steps.{extension, nextLyndon, previousLyndon, period}
-use Rattle.theory.specs.Strips.{admitted, stripWords, strip, markAt, marksFrom, window, placeOf, cursorOk, placeIn, cursorAt, stepOf}
+use Rattle.theory.specs.Strips.{admitted, stripWords, strip, markAt, marksFrom, window, placeOf, cursorOk, placeIn, cursorAt, stepOf, backOf}
 use Rattle.theory.specs.Plans.{planFault, sectionCount, shades, marks, sections, nthS, lookupFault, layingOf, distanceOf}
 use Rattle.theory.specs.Marked.{Marked}
 
@@ -96,11 +96,15 @@ pub record Steps (k n : ℕ) : Type 0 where
   pub next-none : nextLyndon k n ((k - 1) ∷ []) ≡ []
   pub previous-in : (y : List ℕ) → In y (lyndonsUp k n) → y ≢ 0 ∷ [] → In (previousLyndon k n y) (lyndonsUp k n)
   pub previous-next : (x : List ℕ) → In x (lyndonsUp k n) → x ≢ (k - 1) ∷ [] → previousLyndon k n (nextLyndon k n x) ≡ x
+  pub previous-smaller : (y : List ℕ) → In y (lyndonsUp k n) → y ≢ 0 ∷ [] → below (previousLyndon k n y) y ≡ true
+  pub previous-most : (x y : List ℕ) → In x (lyndonsUp k n) → In y (lyndonsUp k n) → below x y ≡ true → upTo x (previousLyndon k n y) ≡ true
   pub next-previous : (y : List ℕ) → In y (lyndonsUp k n) → y ≢ 0 ∷ [] → nextLyndon k n (previousLyndon k n y) ≡ y
   -- words passed: none from a word to itself, and a step passes the word that it leads to
   pub passed-none : (v : List ℕ) → passedBy v v (lyndonsUp k n) ≡ 0
   pub passed-step : (u v : List ℕ) → In u (lyndonsUp k n) → u ≢ (k - 1) ∷ [] → upTo (nextLyndon k n u) v ≡ true
       → passedBy u v (lyndonsUp k n) ≡ suc (passedBy (nextLyndon k n u) v (lyndonsUp k n))
+  -- as many words are passed back
+  pub passed-back : (u v : List ℕ) → In u (lyndonsUp k n) → In v (lyndonsUp k n) → passedDown k n v u ≡ passedTo k n u v
 
 -- Fredricksen and Maiorana's theorem for a ring (document 003, Theorem 1.5.6; document 004, Theorem 23).
 pub record Ring (ok : ℕ → Bool) (k n : ℕ) : Type 0 where
@@ -122,18 +126,41 @@ pub record Ring (ok : ℕ → Bool) (k n : ℕ) : Type 0 where
       → ((v : List ℕ) → In v (ringWords ok k n) → below v m ≡ true → take (n - r) (powerTo n v) ≢ drop r w)
       → modulo (placeOn ok k n w + r) (length (ring ok k n)) ≡ beforeW m (ringWords ok k n)
 
+-- What a move x of a cursor does: it reads a letter, leads to a cursor that is good, at a position, and passes so many words to the one held then,
+-- which are not more than `most`.
+abbrev pub Leads : (Cursor → Bool) → (Cursor → ℕ) → Stepped → ℕ → ℕ → (List ℕ → ℕ) → ℕ → Type 0
+Leads good position x letter to passes most =
+    (x .mark ≡ letter)
+    × (good (x .cursor-is) ≡ true)
+    × (position (x .cursor-is) ≡ to)
+    × (x .passed ≡ passes (x .cursor-is .word))
+    × (x .passed ≤ most)
+
 -- Cursors on a ring: one for each position; a step reads the ring's letter and goes on to the next position.
 pub record Cursors-on (ok : ℕ → Bool) (k n : ℕ) : Type 0 where
   pub there : (p : ℕ) → p < length (ring ok k n) → (goodOn ok (cursorOn ok k n p) ≡ true) × (positionOn ok (cursorOn ok k n p) ≡ p)
   pub within : (c : Cursor) → c .k ≡ k → c .n ≡ n → goodOn ok c ≡ true → positionOn ok c < length (ring ok k n)
   pub one : (c : Cursor) → c .k ≡ k → c .n ≡ n → goodOn ok c ≡ true → cursorOn ok k n (positionOn ok c) ≡ c
   pub onward : (c : Cursor) → c .k ≡ k → c .n ≡ n → goodOn ok c ≡ true
-      → (stepOn ok c .mark ≡ letterOn (length (ring ok k n)) (ring ok k n) (positionOn ok c))
-      × (goodOn ok (stepOn ok c .cursor-is) ≡ true)
-      × (positionOn ok (stepOn ok c .cursor-is) ≡ modulo (suc (positionOn ok c)) (length (ring ok k n)))
-      × (stepOn ok c .passed ≡ passedTo k n (c .word) (stepOn ok c .cursor-is .word))
-      × (stepOn ok c .passed ≤ n)
+      → let p = positionOn ok c in
+      let s = ring ok k n in
+      Leads (goodOn ok) (positionOn ok) (stepOn ok c) (letterOn (length s) s p) (modulo (suc p) (length s)) (passedTo k n (c .word)) n
   pub reads : (p c : ℕ) → p < length (ring ok k n) → readOn ok (cursorOn ok k n p) c ≡ lettersOn (length (ring ok k n)) (ring ok k n) p c
+
+-- Both ways round a ring: a step back reads the letter that it leaves and goes to the position before; step and step back undo each other and pass as
+-- many words; and whichever way a cursor goes, it reads the ring's letters on its path and stands where the path ends.
+pub record Both-ways (ok : ℕ → Bool) (k n : ℕ) : Type 0 where
+  pub backward : (c : Cursor) → c .k ≡ k → c .n ≡ n → goodOn ok c ≡ true
+      → let p = positionOn ok c in
+      let s = ring ok k n in
+      Leads (goodOn ok) (positionOn ok) (backOn ok c) (letterOn (length s) s p) (beside (length s) false p) (passedDown k n (c .word)) n
+  pub back-step : (c : Cursor) → c .k ≡ k → c .n ≡ n → goodOn ok c ≡ true → backOn ok (stepOn ok c .cursor-is) .cursor-is ≡ c
+  pub step-back : (c : Cursor) → c .k ≡ k → c .n ≡ n → goodOn ok c ≡ true → stepOn ok (backOn ok c .cursor-is) .cursor-is ≡ c
+  pub as-many : (c : Cursor) → c .k ≡ k → c .n ≡ n → goodOn ok c ≡ true → stepOn ok (backOn ok c .cursor-is) .passed ≡ backOn ok c .passed
+  pub follows : (c : Cursor) (ds : List Bool) → c .k ≡ k → c .n ≡ n → goodOn ok c ≡ true
+      → (walkLetters ok ds c ≡ pathLetters (length (ring ok k n)) (ring ok k n) ds (positionOn ok c))
+      × (goodOn ok (walkEnd ok ds c) ≡ true)
+      × (positionOn ok (walkEnd ok ds c) ≡ pathEnd (length (ring ok k n)) ds (positionOn ok c))
 
 -- The strip: every window is read at exactly one place.
 pub record One-place : Type 0 where
@@ -149,11 +176,11 @@ pub record Cursors : Type 0 where
   pub within : (c : Cursor) → 2 ≤ c .k → 1 ≤ c .n → cursorOk c ≡ true → placeIn c < c .k ^ c .n
   pub one : (c : Cursor) → 2 ≤ c .k → 1 ≤ c .n → cursorOk c ≡ true → cursorAt (c .k) (c .n) (placeIn c) ≡ c
   pub onward : (c : Cursor) → 2 ≤ c .k → 1 ≤ c .n → cursorOk c ≡ true
-      → (stepOf c .mark ≡ markAt (c .k) (c .n) (placeIn c))
-      × (cursorOk (stepOf c .cursor-is) ≡ true)
-      × (placeIn (stepOf c .cursor-is) ≡ modulo (suc (placeIn c)) (c .k ^ c .n))
-      × (stepOf c .passed ≡ passedTo (c .k) (c .n) (c .word) (stepOf c .cursor-is .word))
-      × (stepOf c .passed ≤ c .n)
+      → let p = placeIn c in
+      Leads cursorOk placeIn (stepOf c) (markAt (c .k) (c .n) p) (modulo (suc p) (c .k ^ c .n)) (passedTo (c .k) (c .n) (c .word)) (c .n)
+  pub backward : (c : Cursor) → 2 ≤ c .k → 1 ≤ c .n → cursorOk c ≡ true
+      → let p = placeIn c in
+      Leads cursorOk placeIn (backOf c) (markAt (c .k) (c .n) p) (beside (c .k ^ c .n) false p) (passedDown (c .k) (c .n) (c .word)) (c .n)
   pub reads : (k n p c : ℕ) → 2 ≤ k → 1 ≤ n → p < k ^ n → readOn (λ d. divides d n) (cursorAt k n p) c ≡ marksFrom k n p c
 
 -- From whichever place n letters are read wholly inside a section, the lookup answers it and the distance.
@@ -244,6 +271,7 @@ pub record Theorems : Type 0 where
   pub steps : (k n : ℕ) → 2 ≤ k → 1 ≤ n → Steps k n
   pub rings : (ok : ℕ → Bool) (k n : ℕ) → 2 ≤ k → 1 ≤ n → Allowed n ok → Ring ok k n
   pub ring-cursors : (ok : ℕ → Bool) (k n : ℕ) → 2 ≤ k → 1 ≤ n → Allowed n ok → Cursors-on ok k n
+  pub both-ways : (ok : ℕ → Bool) (k n : ℕ) → 2 ≤ k → 1 ≤ n → Allowed n ok → Both-ways ok k n
   pub one-place : One-place
   pub cursors : Cursors
   pub laid : Laid
