@@ -3,13 +3,18 @@ use mathlib.Core.Path.{_≡_, refl, sym, _∙_, ap, ap₂}
 use mathlib.Core.List.{List, [], _∷_, _++_, append-assoc, append-nil}
 use Prim.Native.Nat.{ℕ, suc, _-_, _≤_, _<_}
 use native.Mathlib.Omega.{arith}
-use lib.ListN.{length, getD, set, take, replicate, length-set}
+use lib.ListN.{length, getD, set, take, replicate, length-append, length-replicate, length-set}
 use lib.Seq.{take-suc, take-length, length-take-le, set-at, getD-at}
+use Rattle.buffers.specs.Buffers.{filled}
+
+pub filled-size : (z i : ℕ) (w : List ℕ) → i ≤ length w → length (filled z i w) ≡ length w
+filled-size z i w h =
+    length-append (take i w) (replicate (length w - i) z) ∙ omega (arith, length-take-le i w h, length-replicate (length w - i) z)
 
 pub record Filled (z : ℕ) (w₀ w : List ℕ) (i : ℕ) : Type 0 where
   pub within : i ≤ length w₀
   pub size : length w ≡ length w₀
-  pub word : w ≡ take i w₀ ++ replicate (length w₀ - i) z
+  pub word : w ≡ filled z i w₀
 
 pub filled-none : (z : ℕ) (w : List ℕ) → Filled z w w (length w)
 filled-none z w =

@@ -1,9 +1,9 @@
-// Bytes copied to the start of a buffer that the caller lends, and numbers written there with the highest byte first.
+// Bytes copied to the start of a buffer that the caller lends, one byte up to its end, and numbers written with the highest byte first.
 ghost use mathlib.Core.Path.{_≡_};
 ghost use Prim.Native.Nat.{_≤_};
 ghost use lib.ListN.{length};
 ghost use Rattle.theory.specs.Words.{turned};
-ghost use Rattle.buffers.specs.Buffers.{putBe, over};
+ghost use Rattle.buffers.specs.Buffers.{putBe, over, filled};
 
 // The source, byte by byte.
 pub fn copy(src: &[u8], out: &mut [u8])
@@ -25,6 +25,18 @@ pub fn copy_turned(src: &[u8], turn: usize, out: &mut [u8])
     copy(&src[turn..], out);
     let done = src.len() - turn;
     copy(&src[..turn], &mut out[done..]);
+}
+
+// One byte from a place on to the buffer's end.
+pub fn fill(out: &mut [u8], from: usize, b: u8)
+    requires { ⌜ from ≤ length (now out) ⌝ }
+    ensures { λ _. ⌜ now (out .exit) ≡ filled b from (now (out .entry)) ⌝ }
+{
+    let mut i = out.len();
+    while from < i {
+        i -= 1;
+        out[i] = b;
+    }
 }
 
 // A number in 2 bytes.

@@ -81,6 +81,9 @@ pre-period-is (a ∷ w) h = elim (test (isLyndon (take (period (a ∷ w)) (a ∷
           size = length-take-le (prePeriod (a ∷ w)) (a ∷ w) (omega (arith, p, r .fits));
         }
 
+pub pre-period-fits : (w : List ℕ) → prePeriod w ≤ length w
+pre-period-fits w = elim (cmp 0 (prePeriod w)) [ less h ↦ pre-period-is w h .fits | equal h ↦ omega arith | more h ↦ absurd (omega arith) ]
+
 pub pre-period-pre : (w : List ℕ) → 0 < prePeriod w → Prenecklace w
 pre-period-pre w h = lyndon-extends-pre (pre-period-is w h .lyndon) (pre-period-is w h .goes-on)
 

@@ -1,4 +1,4 @@
-// Tests of a word: are its letters below k, is it a Lyndon word, is it a necklace?
+// Tests of a word: are its letters below k, is it a Lyndon word, is it a necklace? And the length of the Lyndon word that it extends.
 ghost use mathlib.Core.Path.{_≡_};
 ghost use Rattle.theory.specs.Words.{marksOk, isLyndon};
 ghost use Rattle.theory.specs.Steps.{prePeriod};
@@ -26,7 +26,7 @@ pub fn letters_below(k: u64, w: &[u8]) -> bool
 }
 
 // The length of the Lyndon word that w extends, by comparing each letter with the one a period back; 0 if a letter is smaller.
-fn pre_period(w: &[u8]) -> usize
+pub fn pre_period(w: &[u8]) -> usize
     ensures { λ r. ⌜ r ≡ prePeriod (now (w .entry)) ⌝ }
 {
     if w.len() == 0 {

@@ -2,4 +2,3 @@
 pub mod Goals
 pub mod Tries
 pub mod Searches
-pub mod Fills

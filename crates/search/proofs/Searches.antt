@@ -4,10 +4,9 @@ use mathlib.Core.Bool.{true, false}
 use mathlib.Core.List.{List, [], _∷_, _++_, tail-eq-of-cons-eq}
 use Prim.Native.Nat.{ℕ, suc, _+_, _-_, _≤_, _<_}
 use native.Mathlib.Omega.{arith}
-use native.Mathlib.Nat.{sub-zero}
 use native.Mathlib.Numerals.{add-one}
 use lib.Dec.{eqb}
-use lib.ListN.{length, getD, take, drop, replicate, length-set, length-replicate, take-append-drop}
+use lib.ListN.{length, getD, take, drop, replicate, length-set, take-append-drop}
 use lib.Seq.{take-length, take-suc, take-suc-set, drop-set-lt, drop-cons, getD-take}
 use borrow.Author.Tests.{eq-eqb, ne-eqb, lt-ltb, le-ltb}
 use Rattle.shape.specs.declared.Strip as DS
@@ -19,8 +18,10 @@ use Rattle.theory.proofs.Base.{Split, split, upto, over}
 use Rattle.theory.proofs.Letters.{marks-append, marks-take, marks-replicate}
 use Rattle.theory.proofs.Lyndon.{one-letter, lyndon-pre}
 use Rattle.lyndon.proofs.PrePeriods.{Periodic, periodic, periodic-start, periodic-keep, periodic-raise, periodic-least, periodic-open}
+use Rattle.buffers.specs.Buffers.{filled}
+use Rattle.buffers.proofs.Fills.{filled-size}
 use Rattle.search.specs.declared.Goal.{Goal}
-use Rattle.search.specs.Goals.{Within, goalWord, Searching, Found, Filled, letterBack, periodWith}
+use Rattle.search.specs.Goals.{Within, goalWord, Searching, Found, letterBack, periodWith}
 use Rattle.search.proofs.Goals.{Target, target}
 
 pub back-start : (w : List ℕ) (p j : ℕ) → j ≡ 0 → 0 ≡ letterBack w j p
@@ -56,12 +57,12 @@ module _ {s : DS.Strip} (g : Goal) (h : Shaped s) (inside : Within s g) where
   t : Target (s .k) (s .n) T
   t = target s g h inside
 
-  pub search-start : {before out : List ℕ} → length before ≡ s .n → Filled (s .k - 1) before out → SearchedTo s g out 0 0
-  search-start {before} {out} e f = record {
+  pub search-start : (before : List ℕ) {out : List ℕ} → length before ≡ s .n → out ≡ filled (s .k - 1) 0 before → SearchedTo s g out 0 0
+  search-start before {out} e f = record {
     within = omega arith;
-    size = ap length (f .is) ∙ length-replicate (length before) (s .k - 1) ∙ e;
+    size = ap length f ∙ filled-size (s .k - 1) 0 before (omega arith) ∙ e;
     begun = refl;
-    rest = f .is ∙ ap (λ m. replicate m (s .k - 1)) (e ∙ sym (sub-zero (s .n)));
+    rest = f ∙ ap (λ m. replicate (m - 0) (s .k - 1)) e;
     repeats = λ q. absurd (omega arith);
   }
 

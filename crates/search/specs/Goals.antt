@@ -3,7 +3,7 @@ use mathlib.Core.Path.{_≡_}
 use mathlib.Core.List.{List, [], _∷_, _++_}
 use Prim.Native.Nat.{ℕ, suc, _+_, _-_, _≤_, _<_}
 use lib.Dec.{eqb, ltb}
-use lib.ListN.{length, getD, take, drop, set, replicate}
+use lib.ListN.{getD, take, drop, set, replicate}
 use Rattle.theory.specs.Prenecklaces.{Prenecklace}
 use Rattle.theory.specs.Words.{pick, howMany, wordOf}
 use Rattle.theory.specs.Sums.{cs}
@@ -22,10 +22,6 @@ Within s (Position p) = p < s .size
 abbrev pub goalWord : ℕ → ℕ → Goal → List ℕ
 goalWord k n (Index i) = wordOf k n i
 goalWord k n (Position p) = leastWord k (λ w. ltb p (cs k w)) [] n
-
--- every byte is b
-pub record Filled (b : ℕ) (before after : List ℕ) : Type 0 where
-  pub is : after ≡ replicate (length before) b
 
 -- before a letter is searched: the word begins with the first j letters, its next is at least `from`, k−1 stands after it, and each
 -- letter from `from` on makes a prenecklace

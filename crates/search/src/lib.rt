@@ -6,7 +6,7 @@ ghost use Rattle.theory.specs.Words.{upTo};
 ghost use Rattle.theory.specs.Prenecklaces.{Prenecklace};
 ghost use Rattle.automaton.specs.Tables.{cells};
 ghost use Rattle.shape.specs.Shapes.{Shaped, WordOn};
-ghost use Rattle.search.specs.Goals.{Within, goalWord, Filled, Searching, Found, letterBack, periodWith};
+ghost use Rattle.search.specs.Goals.{Within, goalWord, Searching, Found, letterBack, periodWith};
 use shape::Strip;
 
 // What is searched for: the Lyndon word of an index, or the necklace that holds a position.
@@ -48,17 +48,6 @@ fn letter(s: Strip, goal: Goal, w: &mut [u8], j: usize, from: u8, t: &mut [u64])
     low
 }
 
-// Every byte of the buffer.
-fn fill(out: &mut [u8], b: u8)
-    ensures { λ _. ⌜ Filled b (now (out .entry)) (now (out .exit)) ⌝ }
-{
-    let mut i = 0;
-    while i < out.len() {
-        out[i] = b;
-        i += 1;
-    }
-}
-
 // The letter a period back, which the next letter of a prenecklace is not below; 0 at the start.
 fn back(w: &[u8], j: usize, period: usize) -> u8
     requires { ⌜ (0 < j → (1 ≤ period) × (period ≤ j)) × (j < length (now w)) ⌝ }
@@ -89,7 +78,7 @@ pub fn find(s: Strip, goal: Goal, out: &mut [u8])
     requires { ⌜ Shaped s × Within s goal × (length (now out) ≡ s .n) ⌝ }
     ensures { λ _. ⌜ now (out .exit) ≡ goalWord (s .k) (s .n) goal ⌝ }
 {
-    fill(out, (s.k - 1) as u8);
+    buffers::fill(out, 0, (s.k - 1) as u8);
     let mut t = [0u64; automaton::CELLS];
     let mut period = 0;
     let mut j = 0;

@@ -1,2 +1,3 @@
--- Laws of the step to the next Lyndon word.
+-- Laws of the step to the next Lyndon word, and to the one before.
 pub mod Stepping
+pub mod Backing

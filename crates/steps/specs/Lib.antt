@@ -1,2 +1,2 @@
--- What the step to the next Lyndon word asks and answers.
+-- What the steps to the next Lyndon word and to the one before ask and answer.
 pub mod Steps

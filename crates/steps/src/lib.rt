@@ -1,10 +1,12 @@
-// The step from one Lyndon word to the next, in a buffer of n letters.
+// The step from one Lyndon word to the next, and to the one before, in a buffer of n letters.
 ghost use mathlib.Core.Path.{_≡_};
 ghost use Prim.Native.Nat.{_≤_};
 ghost use lib.ListN.{length, take};
+ghost use mathlib.Core.Bool.{true};
+ghost use Rattle.theory.specs.Words.{isLyndon};
 ghost use Rattle.theory.specs.Steps.{extension, raised};
 ghost use Rattle.lyndon.specs.Letters.{Lettered};
-ghost use Rattle.steps.specs.Steps.{padded, Held, NextIs};
+ghost use Rattle.steps.specs.Steps.{padded, Held, NextIs, PreviousIs};
 
 // The first `long` letters, repeated up to the end of the buffer.
 pub fn extend(w: &mut [u8], long: usize)
@@ -45,4 +47,22 @@ pub fn next(k: u64, w: &mut [u8], long: usize) -> usize
 {
     extend(w, long);
     raise_last(k, w)
+}
+
+// The Lyndon word of at most w.len() letters before the one in the first `long` letters; 0 before the first. With its last letter lowered and letters k−1 up
+// to the buffer's end, the word extends the one before it.
+pub fn previous(k: u64, w: &mut [u8], long: usize) -> usize
+    requires { ⌜ Held k (now w) long × (isLyndon (take long (now w)) ≡ true) ⌝ }
+    ensures { λ r. ⌜ PreviousIs k (now (w .entry)) long (now (w .exit)) r ⌝ }
+{
+    let a = w[long - 1];
+    if a == 0 {
+        buffers::fill(w, 0, 0);
+        return 0;
+    }
+    w[long - 1] = a - 1;
+    buffers::fill(w, long, (k - 1) as u8);
+    let l = lyndon::pre_period(w);
+    buffers::fill(w, l, 0);
+    l
 }

@@ -65,7 +65,7 @@ lowered-last [] a = ap (λ r. r ∷ []) (one-less a)
 lowered-last (b ∷ []) a = ap (λ r. b ∷ r) (lowered-last [] a)
 lowered-last (b ∷ (d ∷ p)) a = ap (λ r. b ∷ r) (lowered-last (d ∷ p) a)
 
-pub back-extension : {z n : ℕ} {x : List ℕ} → Member z n x → Step z n x
+back-extension : {z n : ℕ} {x : List ℕ} → Member z n x → Step z n x
     → let y = nextLyndon (suc z) n x in lowered y ++ replicate (n - length y) (suc z - 1) ≡ extension n x
 back-extension {z} {n} {x} m (step p a t l e f) = ap (λ y. lowered y ++ replicate (n - length y) (suc z - 1)) f ∙ filled
   where
@@ -209,14 +209,6 @@ not-zero {x} h l e = elim (test (same x (0 ∷ []))) [
   | inl t ↦ lt-irrefl (subst (λ w. Lt w (0 ∷ [])) (same-eq x (0 ∷ []) t) (subst (λ w. Lt x w) e l))
   | inr t ↦ lt-asym (subst (λ w. Lt x w) e l) (zero-first x h (same-ne t))
 ]
-
--- y, lowered and filled up with k−1, extends the word before it
-pub previous-extension : (k n : ℕ) (y : List ℕ) → 2 ≤ k → 1 ≤ n → In y (lyndonsUp k n) → y ≢ 0 ∷ []
-    → lowered y ++ replicate (n - length y) (k - 1) ≡ extension n (previousLyndon k n y)
-previous-extension zero n y two one i h = absurd (omega arith)
-previous-extension (suc z) n y two one i h =
-    let b = before one (member-in z n i) h in
-    ap (λ w. lowered w ++ replicate (n - length w) (suc z - 1)) (sym (b .then)) ∙ back-extension (b .member) (step-of (b .member) (b .inner))
 
 pub steps : (k n : ℕ) → 2 ≤ k → 1 ≤ n → Steps k n
 steps zero n h g = absurd (omega arith)

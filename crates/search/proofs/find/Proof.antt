@@ -29,10 +29,10 @@ cast-fill : tie.Need-cast-fill Inv-loop μ-loop
 cast-fill c = omega (arith, limits (c .before .before .before .pre .0) .most)
 
 fill-requires : tie.Need-fill-requires Inv-loop μ-loop
-fill-requires c κs = tt
+fill-requires c κs = omega arith
 
 loop-holds : tie.Need-loop-holds Inv-loop μ-loop
-loop-holds c = let f = start c in (search-start _ (f .pre .0) (f .pre .1) (f .pre .2) (c .before .before .fill .ensures), refl)
+loop-holds c = let f = start c in (search-start _ (f .pre .0) (f .pre .1) (f .args .out .now) (f .pre .2) (c .before .before .fill .ensures), refl)
 
 back-requires : tie.Need-back-requires Inv-loop μ-loop
 back-requires c κs = let at = c .before .before in let f = start (at .before) in search-back _ (f .pre .0) (f .pre .1) (at .loop .inv .0) (omega arith)
