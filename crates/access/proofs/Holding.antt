@@ -14,7 +14,8 @@ use Rattle.theory.specs.Rings.{Cursor, cursor, beforeW}
 use Rattle.theory.specs.Strips.{divisorOf, stripWords, cursorAt}
 use Rattle.theory.specs.Search.{leastWord}
 use Rattle.theory.proofs.Base.{and-r}
-use Rattle.theory.proofs.Cursors.{cursors, at-kept}
+use Rattle.theory.proofs.Cursors.{at-kept}
+use Rattle.theory.proofs.Strips.{cursors}
 use Rattle.theory.proofs.Positions.{by-cs, word-fits}
 use Rattle.theory.proofs.Locating.{Root-word, root-word}
 use Rattle.theory.proofs.Letters.{marks-take}

@@ -10,7 +10,7 @@ use Rattle.shape.specs.Shapes.{Shaped}
 use Rattle.shape.proofs.Limits.{limits}
 use Rattle.theory.specs.Rings.{cursor}
 use Rattle.theory.specs.Strips.{placeIn, markAt, marksFrom}
-use Rattle.theory.proofs.Cursors.{cursors}
+use Rattle.theory.proofs.Strips.{cursors}
 use Rattle.rings.proofs.Moving.{held-fits, held-length, held-in}
 use Rattle.rings.proofs.Printing.{word-read}
 use Rattle.access.specs.declared.Spot as DP

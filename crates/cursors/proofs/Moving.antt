@@ -1,106 +1,118 @@
--- A cursor without fault, moved: to the next letter of its word, or to the strip's next word. And where it stands.
-use mathlib.Core.Path.{_≡_, refl, sym, _∙_, ap, ap₂}
+-- A cursor without fault, moved on or back: to a neighbouring letter of its word, or to a neighbouring word of the strip. And where it stands.
+use mathlib.Core.Path.{_≡_, refl, sym, _∙_, ap, subst, subst₂}
 use mathlib.Core.Bool.{true, false}
 use mathlib.Core.List.{List, [], _∷_, _++_, append-assoc}
 use Prim.Native.Nat.{ℕ, suc, _+_, _-_, _≤_, _<_}
 use native.Mathlib.Omega.{arith}
 use native.Mathlib.Numerals.{add-one}
 use lib.Dec.{eqb, ltb}
-use lib.ListN.{length, getD, take, drop, replicate}
+use lib.ListN.{length, getD, take, drop, replicate, length-append, length-drop}
 use lib.Seq.{getD-take, take-at, drop-at, drop-drop}
-use borrow.Author.Tests.{le-leb, lt-ltb, le-ltb}
-use Rattle.theory.specs.Words.{pick, below}
-use Rattle.theory.specs.Rings.{cursor, lyndonsUp, passedBy, divides}
-use Rattle.theory.specs.Strips.{stripWords, nextWord, placeIn, stepOf}
-use Rattle.theory.specs.Lists.{In}
+use borrow.Author.Tests.{lt-ltb, le-ltb}
+use Rattle.theory.specs.Rings.{cursor, passedTo, passedDown}
+use Rattle.theory.specs.Strips.{divisorOf, nextWord, previousWord, placeIn, stepOf, backOf}
 use Rattle.theory.proofs.Base.{and-l, and-r, and-in}
-use Rattle.theory.proofs.Divisors.{divides-le}
-use Rattle.theory.proofs.Listed.{strip-words}
-use Rattle.steps.specs.Steps.{padded}
-use Rattle.rings.specs.Moves.{MovedIs}
+use Rattle.theory.proofs.Lyndon.{lyndon-some}
+use Rattle.theory.proofs.Listed.{lyndon-up-words}
+use Rattle.rings.specs.Moves.{MovedTo, MovedIs, BackIs}
 use Rattle.rings.specs.declared.Moved as DM
-use Rattle.rings.proofs.Moving.{held-in}
-use Rattle.rings.proofs.Ways.{after, after-in}
+use Rattle.rings.proofs.Directions.{Direction, Laws}
+use Rattle.rings.proofs.Ways.{strip-forth, strip-back}
+use Rattle.rings.proofs.Moving.{padded-length, held-in}
 use Rattle.shape.specs.declared.Strip as DH
 use Rattle.shape.proofs.Limits.{limits}
 use Rattle.cursors.specs.declared.Cursor as DC
-use Rattle.cursors.specs.Cursors.{allZero, cursorIn, GoodOn, Goes}
-use Rattle.cursors.proofs.Held.{Good, good, zeros, zeros-drop, held-short, word-long, word-short, place-inside, same-word, held-on}
+use Rattle.cursors.specs.declared.Stepped as DT
+use Rattle.cursors.specs.Cursors.{allZero, cursorIn, Is, GoodOn, moved, Goes}
+use Rattle.cursors.proofs.Held.{zeros, zeros-drop, tidy-in, fine, held-short, word-long, word-short, place-inside, same-word, held-on}
 
 zeros-append : (u v : List ℕ) → allZero u ≡ true → allZero v ≡ true → allZero (u ++ v) ≡ true
 zeros-append [] v a b = b
 zeros-append (x ∷ u) v a b = and-in (and-l (eqb x 0) _ a) (zeros-append u v (and-r (eqb x 0) _ a) b)
 
-module _ {s : DH.Strip} {c : DC.Cursor} (g : GoodOn s c) (sixty : length (c .word) ≡ 60) where
+module _ {s : DH.Strip} {c : DC.Cursor} (g : GoodOn s c) where
   abbrev u : List ℕ
   u = take (c .long) (c .word)
 
-  -- the same word, in the first n bytes
-  abbrev u′ : List ℕ
-  u′ = take (c .long) (take (c .n) (c .word))
-
-  fine : Good c
-  fine = good {c = c} (g .good)
+  -- what holds of the strip and the first n bytes holds of the cursor's fields
+  carried : (F : ℕ → ℕ → List ℕ → Type 0) → F (s .k) (s .n) (take (c .long) (take (c .n) (c .word))) → F (c .k) (c .n) u
+  carried F h = subst (λ w. F (c .k) (c .n) w) (same-word g) (subst₂ (λ k n. F k n (take (c .long) (take (c .n) (c .word)))) (g .letters) (g .marks) h)
 
   -- where it stands
-  pub same-place : placeIn (cursor (s .k) (s .n) (take (c .long) (take (c .n) (c .word))) (c .place)) ≡ placeIn (cursorIn c)
-  same-place = ap₂ (λ k n. placeIn (cursor k n u′ (c .place))) (g .letters) (g .marks) ∙ ap (λ w. placeIn (cursor (c .k) (c .n) w (c .place))) (same-word g sixty)
+  pub same-place : {r : ℕ} → r ≡ placeIn (cursor (s .k) (s .n) (take (c .long) (take (c .n) (c .word))) (c .place)) → r ≡ placeIn (cursorIn c)
+  same-place {r} = carried (λ k n w. r ≡ placeIn (cursor k n w (c .place)))
 
   -- the letter that it stands on
   letter : getD (c .word) (c .place) 0 ≡ getD u (c .place) 0
-  letter = sym (getD-take (c .long) (c .word) (c .place) 0 (place-inside g sixty))
+  letter = sym (getD-take (c .long) (c .word) (c .place) 0 (place-inside g))
 
-  -- inside its word
-  pub goes-inside : c .place + 1 < c .long
-      → Goes (stepOf (cursorIn c)) (record { number = 0; mark = getD (c .word) (c .place) 0; passed = 0; cursor = record { k = c .k; n = c .n; word = c .word; long = c .long; place = c .place + 1 } })
-  goes-inside h =
-      let t : ltb (suc (c .place)) (length u) ≡ true = lt-ltb (suc (c .place)) (length u) (omega (arith, word-long g sixty)) in
-      rw t (refl, letter, refl, (ap (cursor (c .k) (c .n) u) (add-one (c .place)), and-in (le-leb (c .long) 60 (fine .fits)) (fine .zeroed)))
+  -- to another letter of its word
+  module _ {p : ℕ} {r : DT.Stepped} (e : (r .number ≡ 0) × (r .mark ≡ getD (c .word) (c .place) 0) × (r .passed ≡ 0) × (r .cursor ≡ moved c p)) where
+    stays : Is (cursor (c .k) (c .n) u p) (r .cursor)
+    stays = subst (Is (cursor (c .k) (c .n) u p)) (sym (e .3)) (refl, tidy-in (moved c p) (fine g .sixty) (fine g .fits) (fine g .zeroed))
 
-  -- behind its last letter: the next word, in a buffer of n bytes, and after it the bytes that were there
-  module _ {w : List ℕ} {m : DM.Moved} (moved : MovedIs s (take (c .n) (c .word)) (c .long) w m) where
-    abbrev v : List ℕ
-    v = nextWord (cursorIn c)
+    pub goes-inside : p ≡ c .place + 1 → p < c .long → Goes (stepOf (cursorIn c)) r
+    goes-inside q h =
+        let t : ltb (suc (c .place)) (length u) ≡ true = lt-ltb (suc (c .place)) (length u) (omega (arith, word-long g)) in
+        rw t (e .0, e .1 ∙ letter, e .2, subst (λ i. Is (cursor (c .k) (c .n) u i) (r .cursor)) (q ∙ add-one (c .place)) stays)
 
-    next-is : nextWord (cursor (s .k) (s .n) u′ 0) ≡ v
-    next-is = ap₂ (λ k n. nextWord (cursor k n u′ 0)) (g .letters) (g .marks) ∙ ap (λ x. nextWord (cursor (c .k) (c .n) x 0)) (same-word g sixty)
+    pub backs-inside : p ≡ c .place - 1 → 0 < c .place → Goes (backOf (cursorIn c)) r
+    backs-inside q h = rw (lt-ltb 0 (c .place) h) (e .0, e .1 ∙ letter, e .2, subst (λ i. Is (cursor (c .k) (c .n) u i) (r .cursor)) q stays)
 
-    next-size : m .long ≡ length v
-    next-size = moved .size ∙ ap length next-is
-
-    pub next-short : m .long ≤ c .n
-    next-short =
-        let some : 1 ≤ s .n = limits (g .shaped) .some in
-        let i : In (after (s .k) (s .n) u′) (stripWords (s .k) (s .n)) = after-in (s .k) (s .n) (limits (g .shaped) .two) some u′ (held-in (held-on g sixty)) in
-        let d : divides (length (after (s .k) (s .n) u′)) (s .n) ≡ true = strip-words (s .k) (s .n) (after (s .k) (s .n) u′) some .0 i .0 in
-        omega (arith, moved .size, divides-le (length (after (s .k) (s .n) u′)) (s .n) some d, g .marks)
-
-    buffer : w ≡ v ++ replicate (c .n - length v) 0
-    buffer = moved .word ∙ ap₂ padded (g .marks) next-is
-
-    behind : allZero (drop (c .n) (c .word)) ≡ true
-    behind =
-        let e : c .long + (c .n - c .long) ≡ c .n = omega (arith, word-short g sixty) in
-        ap allZero (ap (λ i. drop i (c .word)) (sym e) ∙ sym (drop-drop (c .n - c .long) (c .long) (c .word))) ∙ zeros-drop (c .n - c .long) (drop (c .long) (c .word)) (fine .zeroed)
-
+  -- to another word v: it stands in a buffer of n bytes, and after it are the bytes that were there
+  module _ {v w : List ℕ} {passes : ℕ} {m : DM.Moved} (put : MovedTo (c .n) v passes w m) (short : length v ≤ c .n) where
     abbrev rest : List ℕ
     rest = replicate (c .n - length v) 0 ++ drop (c .n) (c .word)
 
     whole : w ++ drop (c .n) (c .word) ≡ v ++ rest
-    whole = ap (λ x. x ++ drop (c .n) (c .word)) buffer ∙ append-assoc v (replicate (c .n - length v) 0) (drop (c .n) (c .word))
+    whole = ap (λ x. x ++ drop (c .n) (c .word)) (put .word) ∙ append-assoc v (replicate (c .n - length v) 0) (drop (c .n) (c .word))
 
-    words-passed : m .passed ≡ pick (below u v) (passedBy u v (lyndonsUp (c .k) (c .n))) 0
-    words-passed =
-        moved .passed
-        ∙ ap₂ (λ k n. let y = nextWord (cursor k n u′ 0) in pick (below u′ y) (passedBy u′ y (lyndonsUp k n)) 0) (g .letters) (g .marks)
-        ∙ ap (λ x. let y = nextWord (cursor (c .k) (c .n) x 0) in pick (below x y) (passedBy x y (lyndonsUp (c .k) (c .n))) 0) (same-word g sixty)
+    behind : allZero (drop (c .n) (c .word)) ≡ true
+    behind =
+        let e : c .long + (c .n - c .long) ≡ c .n = omega (arith, word-short g) in
+        ap allZero (ap (λ i. drop i (c .word)) (sym e) ∙ sym (drop-drop (c .n - c .long) (c .long) (c .word))) ∙ zeros-drop (c .n - c .long) (drop (c .long) (c .word)) (fine g .zeroed)
+
+    holds : (p : ℕ) → Is (cursor (c .k) (c .n) v p) (record { k = c .k; n = c .n; word = w ++ drop (c .n) (c .word); long = m .long; place = p })
+    holds p =
+        let word : take (m .long) (w ++ drop (c .n) (c .word)) ≡ v = ap (take (m .long)) whole ∙ take-at v rest (m .long) (sym (put .size)) in
+        let after-it : drop (m .long) (w ++ drop (c .n) (c .word)) ≡ rest = ap (drop (m .long)) whole ∙ drop-at v rest (m .long) (sym (put .size)) in
+        let zeroed : allZero rest ≡ true = zeros-append (replicate (c .n - length v) 0) (drop (c .n) (c .word)) (zeros (c .n - length v)) behind in
+        let filled : length w ≡ c .n = ap length (put .word) ∙ padded-length (c .n) v short in
+        let sixty : length (w ++ drop (c .n) (c .word)) ≡ 60 = omega (arith, length-append w (drop (c .n) (c .word)), filled, length-drop (c .n) (c .word), fine g .sixty, held-short g) in
+        let d : DC.Cursor = record { k = c .k; n = c .n; word = w ++ drop (c .n) (c .word); long = m .long; place = p } in
+        (ap (λ x. cursor (c .k) (c .n) x p) word, tidy-in d sixty (omega (arith, put .size, held-short g)) (ap allZero after-it ∙ zeroed))
+
+  -- a word of the strip has at most n letters, and some
+  leads-long : {d : Direction} → Laws d (divisorOf (s .n)) (s .k) (s .n) → let v = d .leads (take (c .long) (take (c .n) (c .word))) in (1 ≤ length v) × (length v ≤ c .n)
+  leads-long {d} r =
+      let v = d .leads (take (c .long) (take (c .n) (c .word))) in
+      let (short, _, lyndon) = lyndon-up-words (s .k) (s .n) v .0 (r .listed (r .lead-in _ (held-in (held-on g)))) in
+      (lyndon-some v lyndon, omega (arith, short, g .marks))
+
+  -- behind its last letter, the next word
+  module _ {w : List ℕ} {m : DM.Moved} (put : MovedIs s (take (c .n) (c .word)) (c .long) w m) where
+    next-is : let v = nextWord (cursorIn c) in MovedTo (c .n) v (passedTo (c .k) (c .n) u v) w m
+    next-is = carried (λ k n x. let y = nextWord (cursor k n x 0) in MovedTo n y (passedTo k n x y) w m) put
+
+    pub next-short : m .long ≤ c .n
+    next-short = let r = limits (g .shaped) in omega (arith, put .size, leads-long (strip-forth (s .k) (s .n) (r .two) (r .some)) .1)
 
     pub goes-onward : c .long ≤ c .place + 1
         → Goes (stepOf (cursorIn c)) (record { number = 0; mark = getD (c .word) (c .place) 0; passed = m .passed; cursor = record { k = c .k; n = c .n; word = w ++ drop (c .n) (c .word); long = m .long; place = 0 } })
     goes-onward h =
-        let t : ltb (suc (c .place)) (length u) ≡ false = le-ltb (suc (c .place)) (length u) (omega (arith, word-long g sixty)) in
-        let word : take (m .long) (w ++ drop (c .n) (c .word)) ≡ v = ap (take (m .long)) whole ∙ take-at v rest (m .long) (sym next-size) in
-        let after-it : drop (m .long) (w ++ drop (c .n) (c .word)) ≡ rest = ap (drop (m .long)) whole ∙ drop-at v rest (m .long) (sym next-size) in
-        let zeroed : allZero rest ≡ true = zeros-append (replicate (c .n - length v) 0) (drop (c .n) (c .word)) (zeros (c .n - length v)) behind in
-        let short : m .long ≤ 60 = omega (arith, next-short, held-short g sixty) in
-        rw t (refl, letter, words-passed, (ap (λ x. cursor (c .k) (c .n) x 0) word, and-in (le-leb (m .long) 60 short) (ap allZero after-it ∙ zeroed)))
+        let t : ltb (suc (c .place)) (length u) ≡ false = le-ltb (suc (c .place)) (length u) (omega (arith, word-long g)) in
+        rw t (refl, letter, next-is .passed, holds next-is (omega (arith, next-is .size, next-short)) 0)
+
+  -- before its first letter, the word before
+  module _ {w : List ℕ} {m : DM.Moved} (put : BackIs s (take (c .n) (c .word)) (c .long) w m) where
+    previous-is : let v = previousWord (cursorIn c) in MovedTo (c .n) v (passedDown (c .k) (c .n) u v) w m
+    previous-is = carried (λ k n x. let y = previousWord (cursor k n x 0) in MovedTo n y (passedDown k n x y) w m) put
+
+    pub previous-long : (1 ≤ m .long) × (m .long ≤ c .n)
+    previous-long = let r = limits (g .shaped) in let (some, short) = leads-long (strip-back (s .k) (s .n) (r .two) (r .some)) in (omega (arith, put .size, some), omega (arith, put .size, short))
+
+    pub backs-away : c .place ≤ 0
+        → Goes (backOf (cursorIn c)) (record { number = 0; mark = getD (c .word) (c .place) 0; passed = m .passed; cursor = record { k = c .k; n = c .n; word = w ++ drop (c .n) (c .word); long = m .long; place = m .long - 1 } })
+    backs-away h =
+        let (is, tidied) = holds previous-is (omega (arith, previous-is .size, previous-long .1)) (m .long - 1) in
+        rw (le-ltb 0 (c .place) h) (refl, letter, previous-is .passed, (is ∙ ap (λ i. cursor (c .k) (c .n) (previousWord (cursorIn c)) (i - 1)) (previous-is .size), tidied))

@@ -4,11 +4,11 @@ use mathlib.Core.Bool.{true, false, _&&_, not}
 use mathlib.Core.List.{List}
 use Prim.Native.Nat.{ℕ, _≤_}
 use native.Mathlib.Omega.{arith}
-use lib.ListN.{replicate}
-use borrow.Author.Tests.{ne-eqb, le-leb, not-false}
+use lib.ListN.{length, replicate}
+use borrow.Author.Tests.{ne-eqb, not-false}
 use Rattle.theory.specs.Words.{when}
-use Rattle.theory.specs.Strips.{cursorOk, cursorAt, stepOf, stripFault}
-use Rattle.theory.proofs.Base.{and-in}
+use Rattle.theory.specs.Rings.{Stepped}
+use Rattle.theory.specs.Strips.{cursorOk, cursorAt, stripFault}
 use Rattle.access.specs.declared.Spot as DP
 use Rattle.access.specs.Holders.{PutAt}
 use Rattle.shape.specs.declared.Strip as DH
@@ -18,12 +18,12 @@ use Rattle.calls.specs.declared.Checked.{Checked}
 use Rattle.calls.specs.declared.Checked.the-variants.{Strip, Refused}
 use Rattle.calls.specs.Refusals.{placeFault}
 use Rattle.calls.specs.Checks.{Checks}
-use Rattle.calls.proofs.Checks.{first-none, when-none, passed, strip-refused, strip-then-refused, strip-then-passed, StripIs, strip-is}
+use Rattle.calls.proofs.Checks.{first-none, when-none, refused-by, passed, strip-refused, strip-then-refused, strip-then-passed, StripIs, strip-is}
 use Rattle.cursors.specs.declared.Cursor as DC
 use Rattle.cursors.specs.declared.Started as DS
 use Rattle.cursors.specs.declared.Stepped as DT
-use Rattle.cursors.specs.Cursors.{allZero, cursorIn, tidy, empty, Is, StartSays, cursorFault, GoodOn, Goes, StepSays}
-use Rattle.cursors.proofs.Held.{zeros, zeros-drop}
+use Rattle.cursors.specs.Cursors.{allZero, cursorIn, tidy, empty, Is, StartSays, cursorFault, GoodOn, Goes, MoveSays}
+use Rattle.cursors.proofs.Held.{zeros, zeros-drop, tidy-in}
 
 -- the check of a cursor, by the check m of its k and n and by the test of its fields
 module _ (c : DC.Cursor) {m : Checked} (e : Checks (stripFault (c .k) (c .n)) (c .k) (c .n) m) where
@@ -52,24 +52,25 @@ good-on c e f =
     let on = strip-is (cursorFault c) (c .k) (c .n) (λ z. faultless-says c z .0) e f in
     record { shaped = on .shaped; letters = on .letters; marks = on .marks; good = faultless-says c (passed (cursorFault c) (c .k) (c .n) e f .0) .1 }
 
--- a step
-pub step-refused : (c : DC.Cursor) {x : ℕ} (r : DT.Stepped) → cursorFault c ≡ x → ¬ (x ≡ 0)
-    → (r .number ≡ x) × (r .mark ≡ 0) × (r .passed ≡ 0) × (r .cursor ≡ c) → StepSays c r
-step-refused c {x} r h z e = rw (h, ne-eqb x 0 z) e
+-- a move, by the check of the cursor
+module _ (x : Stepped) (c : DC.Cursor) {m : Checked} (r : DT.Stepped) (e : Checks (cursorFault c) (c .k) (c .n) m) where
+  pub move-refused : {f : ℕ} → m ≡ Refused f → (r .number ≡ f) × (r .mark ≡ 0) × (r .passed ≡ 0) × (r .cursor ≡ c) → MoveSays x c r
+  move-refused {f} g h = let (is, some) = refused-by (cursorFault c) (c .k) (c .n) e g in rw (is, ne-eqb f 0 some) h
 
-pub step-answer : (c : DC.Cursor) (r : DT.Stepped) → cursorFault c ≡ 0 → Goes (stepOf (cursorIn c)) r → StepSays c r
-step-answer c r h e = rw h e
+  pub move-answer : {s : DH.Strip} → m ≡ Strip s → Goes x r → MoveSays x c r
+  move-answer g h = rw (passed (cursorFault c) (c .k) (c .n) e g .0) h
 
 -- a start
 pub start-refused : (k n p : ℕ) {x : ℕ} (r : DS.Started) → placeFault k n p ≡ x → ¬ (x ≡ 0) → (r .number ≡ x) × (empty (r .cursor) ≡ true) → StartSays k n p r
 start-refused k n p {x} r h z e = rw (h, ne-eqb x 0 z) e
 
 -- the word put over zeros, with its length and the place in it
-pub started-at : {s : DH.Strip} {p : ℕ} {w : List ℕ} {r : DP.Spot} → Shaped s → PutAt s p (replicate 60 0) w r
+pub started-at : {s : DH.Strip} {p : ℕ} {w : List ℕ} {r : DP.Spot} → Shaped s → length w ≡ 60 → PutAt s p (replicate 60 0) w r
     → let c : DC.Cursor = record { k = s .k; n = s .n; word = w; long = r .long; place = r .at } in Is (cursorAt (s .k) (s .n) p) c
-started-at {s} {p} {w} {r} shaped put =
+started-at {s} {p} {w} {r} shaped sixty put =
+    let c : DC.Cursor = record { k = s .k; n = s .n; word = w; long = r .long; place = r .at } in
     let short : r .long ≤ 60 = omega (arith, put .fits, limits shaped .short) in
-    (put .stands, and-in (le-leb (r .long) 60 short) (ap allZero (put .rest) ∙ zeros-drop (r .long) (replicate 60 0) (zeros 60)))
+    (put .stands, tidy-in c sixty short (ap allZero (put .rest) ∙ zeros-drop (r .long) (replicate 60 0) (zeros 60)))
 
 pub start-answer : (k n p : ℕ) {s : DH.Strip} (r : DS.Started) → placeFault k n p ≡ 0 → StripIs k n s → (r .number ≡ 0) × Is (cursorAt (s .k) (s .n) p) (r .cursor) → StartSays k n p r
 start-answer k n p r h on e = rw h (e .0, subst₂ (λ x y. Is (cursorAt x y p) (r .cursor)) (on .letters) (on .marks) (e .1))

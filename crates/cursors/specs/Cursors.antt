@@ -4,10 +4,10 @@ use mathlib.Core.Bool.{Bool, true, _&&_, not}
 use mathlib.Core.List.{List, [], _∷_}
 use Prim.Native.Nat.{ℕ}
 use lib.Dec.{eqb, leb}
-use lib.ListN.{take, drop}
+use lib.ListN.{length, take, drop}
 use Rattle.theory.specs.Words.{pick, pickT, firstOf, when}
 use Rattle.theory.specs.Rings.{Cursor, Stepped, cursor}
-use Rattle.theory.specs.Strips.{cursorOk, cursorAt, placeIn, stepOf, stripFault}
+use Rattle.theory.specs.Strips.{cursorOk, cursorAt, placeIn, stepOf, backOf, stripFault}
 use Rattle.shape.specs.declared.Strip as DH
 use Rattle.shape.specs.Shapes.{Shaped}
 use Rattle.calls.specs.Refusals.{placeFault}
@@ -17,7 +17,7 @@ use Rattle.cursors.specs.declared.Cursor as DC
 use Rattle.cursors.specs.declared.Started as DS
 use Rattle.cursors.specs.declared.Stepped as DT
 
--- the held word in 60 bytes with zeros after it
+-- the held word in 60 bytes with zeros after it. An array has so many bytes, but a definition does not know it.
 abbrev pub allZero : List ℕ → Bool
 allZero [] = true
 allZero (x ∷ xs) = eqb x 0 && allZero xs
@@ -26,7 +26,7 @@ abbrev pub cursorIn : DC.Cursor → Cursor
 cursorIn c = cursor (c .k) (c .n) (take (c .long) (c .word)) (c .place)
 
 abbrev pub tidy : DC.Cursor → Bool
-tidy c = leb (c .long) 60 && allZero (drop (c .long) (c .word))
+tidy c = eqb (length (c .word)) 60 && (leb (c .long) 60 && allZero (drop (c .long) (c .word)))
 
 abbrev pub Is : Cursor → DC.Cursor → Type 0
 Is x c = (cursorIn c ≡ x) × (tidy c ≡ true)
@@ -52,15 +52,25 @@ pub record GoodOn (s : DH.Strip) (c : DC.Cursor) : Type 0 where
   pub marks : s .n ≡ c .n
   pub good : (tidy c && cursorOk (cursorIn c)) ≡ true
 
--- a step's answer: no number, the letter, the words passed, the moved cursor
+-- the same word, another place in it
+abbrev pub moved : DC.Cursor → ℕ → DC.Cursor
+moved c p = record { k = c .k; n = c .n; word = c .word; long = c .long; place = p }
+
+-- a move's answer: no number, the letter, the words passed, the moved cursor
 abbrev pub Goes : Stepped → DT.Stepped → Type 0
 Goes x r = (r .number ≡ 0) × (r .mark ≡ x .mark) × (r .passed ≡ x .passed) × Is (x .cursor-is) (r .cursor)
 
-abbrev pub StepSays : DC.Cursor → DT.Stepped → Type 0
-StepSays c r =
+abbrev pub MoveSays : Stepped → DC.Cursor → DT.Stepped → Type 0
+MoveSays x c r =
     let f = cursorFault c in
-    let x = stepOf (cursorIn c) in
     (r .number ≡ f)
     × (r .mark ≡ pick (eqb f 0) (x .mark) 0)
     × (r .passed ≡ pick (eqb f 0) (x .passed) 0)
     × pickT (eqb f 0) (Is (x .cursor-is) (r .cursor)) (r .cursor ≡ c)
+
+-- on, and back
+abbrev pub StepSays : DC.Cursor → DT.Stepped → Type 0
+StepSays c r = MoveSays (stepOf (cursorIn c)) c r
+
+abbrev pub BackSays : DC.Cursor → DT.Stepped → Type 0
+BackSays c r = MoveSays (backOf (cursorIn c)) c r

@@ -1,11 +1,12 @@
-// Cursors: a strip, a word of it that is held, and a place in that word. A cursor starts at any place of the strip and steps from mark to mark.
+// Cursors: a strip, a word of it that is held, and a place in that word. A cursor starts at any place of the strip and steps from mark to mark,
+// on or back.
 ghost use mathlib.Core.Path.{_≡_};
 ghost use mathlib.Core.Bool.{true, _&&_};
 ghost use Prim.Native.Nat.{_<_};
-ghost use Rattle.theory.specs.Strips.{cursorOk, cursorAt, placeIn, stepOf};
+ghost use Rattle.theory.specs.Strips.{cursorOk, cursorAt, placeIn, stepOf, backOf};
 ghost use Rattle.shape.specs.Shapes.{Shaped};
 ghost use Rattle.calls.specs.Checks.{Checks};
-ghost use Rattle.cursors.specs.Cursors.{cursorIn, tidy, empty, Is, cursorFault, StartSays, WhereSays, GoodOn, Goes, StepSays};
+ghost use Rattle.cursors.specs.Cursors.{cursorIn, tidy, empty, Is, cursorFault, StartSays, WhereSays, GoodOn, moved, Goes, StepSays, BackSays};
 use calls::Checked;
 use calls::Value;
 use calls::refusals;
@@ -145,6 +146,25 @@ fn lost(number: u8, c: Cursor) -> Stepped
     }
 }
 
+// To another place of the held word, which passes no word.
+fn within(c: Cursor, mark: u8, place: u8) -> Stepped
+    ensures { λ r. ⌜ (r .number ≡ 0) × (r .mark ≡ mark) × (r .passed ≡ 0) × (r .cursor ≡ moved c place) ⌝ }
+{
+    let word = c.word;
+    Stepped {
+        number: 0,
+        mark,
+        passed: 0,
+        cursor: Cursor {
+            k: c.k,
+            n: c.n,
+            word,
+            long: c.long,
+            place,
+        },
+    }
+}
+
 // To the next mark of the held word, or to the first of the strip's next word.
 fn onward(s: Strip, c: Cursor) -> Stepped
     requires { ⌜ GoodOn s c ⌝ }
@@ -155,18 +175,7 @@ fn onward(s: Strip, c: Cursor) -> Stepped
     let mark = word[at];
     let next = c.place + 1;
     if next < c.long {
-        return Stepped {
-            number: 0,
-            mark,
-            passed: 0,
-            cursor: Cursor {
-                k: c.k,
-                n: c.n,
-                word,
-                long: c.long,
-                place: next,
-            },
-        };
+        return within(c, mark, next);
     }
     let marks = c.n as usize;
     let moved = rings::next_word(s, &mut word[..marks], c.long as usize);
@@ -184,6 +193,36 @@ fn onward(s: Strip, c: Cursor) -> Stepped
     }
 }
 
+// To the mark before in the held word, or to the last of the strip's word before.
+fn backward(s: Strip, c: Cursor) -> Stepped
+    requires { ⌜ GoodOn s c ⌝ }
+    ensures { λ r. ⌜ Goes (backOf (cursorIn c)) r ⌝ }
+{
+    let mut word = c.word;
+    let at = c.place as usize;
+    let mark = word[at];
+    if 0 < c.place {
+        let before = c.place - 1;
+        return within(c, mark, before);
+    }
+    let marks = c.n as usize;
+    let led = rings::previous_word(s, &mut word[..marks], c.long as usize);
+    let long = led.long as u8;
+    let last = long - 1;
+    Stepped {
+        number: 0,
+        mark,
+        passed: led.passed,
+        cursor: Cursor {
+            k: c.k,
+            n: c.n,
+            word,
+            long,
+            place: last,
+        },
+    }
+}
+
 impl Cursor {
     // The mark that the cursor stands on, the words passed, and the cursor on the next mark.
     pub fn step(self) -> Stepped
@@ -192,6 +231,16 @@ impl Cursor {
         match check(self) {
             Checked::Refused(number) => lost(number, self),
             Checked::Strip(strip) => onward(strip, self),
+        }
+    }
+
+    // The mark that the cursor stands on, the words passed backwards, and the cursor on the mark before.
+    pub fn step_back(self) -> Stepped
+        ensures { λ r. ⌜ BackSays self r ⌝ }
+    {
+        match check(self) {
+            Checked::Refused(number) => lost(number, self),
+            Checked::Strip(strip) => backward(strip, self),
         }
     }
 }

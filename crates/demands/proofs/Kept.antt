@@ -5,7 +5,7 @@ use Rattle.demands.proofs.Trays.{trays, no-value, number-back}
 use Rattle.demands.proofs.Refused.{refusals}
 use Rattle.demands.proofs.Words.{lyndon, rotation, root-told, count, ranked, unranked, word-back, rank-back}
 use Rattle.demands.proofs.Marks.{marked, placed, place-back, window-back, printed}
-use Rattle.demands.proofs.Walking.{started, not-started, stands, step, not-stepped, walk}
+use Rattle.demands.proofs.Walking.{started, not-started, stands, step, not-stepped, undone, walk, both-ways}
 use Rattle.demands.proofs.Laying.{laid, laid-only}
 
 pub demands : Demands
@@ -33,7 +33,9 @@ demands = record {
   stands = stands;
   step = step;
   not-stepped = not-stepped;
+  undone = undone;
   walk = walk;
+  both-ways = both-ways;
   laid = laid;
   laid-only = laid-only;
 }

@@ -102,5 +102,6 @@ refusals = record {
   start-cursor = λ k n p r e. e .0 ∙ place-given k n p;
   cursor-place = λ c r e. e .0 ∙ cursor-given c;
   step = λ c r e. e .0 ∙ cursor-given c;
+  step-back = λ c r e. e .0 ∙ cursor-given c;
   not-laid = not-laid;
 }

@@ -1,14 +1,14 @@
 -- The three demands as one record: the theorems about the definitions, and what follows for the bytes that the calls leave in trays.
 -- A call's promise says what it gives for every argument (specs/Says of words, marks and lookups; Cursors of cursors): here it stands as a premise.
 use mathlib.Core.Path.{_≡_}
-use mathlib.Core.Bool.{true}
+use mathlib.Core.Bool.{Bool, true, not}
 use mathlib.Core.List.{List}
 use mathlib.Core.Logic.{_↔_, _≢_}
 use Prim.Native.Nat.{ℕ, _+_, _^_, _≤_, _<_}
 use lib.ListN.{length, getD, take, drop, replicate}
 use Rattle.theory.specs.Words.{below, upTo, turned, leastTurn, repeated, powerTo, marksOk, isLyndon, howMany, rank, wordOf}
-use Rattle.theory.specs.Rings.{modulo}
-use Rattle.theory.specs.Strips.{admitted, markAt, marksFrom, window, placeIn}
+use Rattle.theory.specs.Rings.{modulo, pathEnd, pathLetters}
+use Rattle.theory.specs.Strips.{admitted, strip, markAt, marksFrom, window, placeIn}
 use Rattle.theory.specs.Plans.{be, shades, marks, sectionCount, sections, nthS, planFault}
 use Rattle.theory.specs.Theorems.{Theorems}
 use Rattle.buffers.specs.Buffers.{putBe, over}
@@ -20,10 +20,10 @@ use Rattle.lookups.specs.Says.{LookupSays}
 use Rattle.cursors.specs.declared.Cursor as DC
 use Rattle.cursors.specs.declared.Started as DS
 use Rattle.cursors.specs.declared.Stepped as DT
-use Rattle.cursors.specs.Cursors.{cursorIn, empty, cursorFault, StartSays, WhereSays, StepSays}
+use Rattle.cursors.specs.Cursors.{cursorIn, empty, cursorFault, StartSays, WhereSays}
 use Rattle.demands.specs.Refused.{Refusals}
 use Rattle.demands.specs.Trays.{Trays}
-use Rattle.demands.specs.Walked.{Steps-on, Walked, fields, passedFrom}
+use Rattle.demands.specs.Walked.{Says, Steps-on, Walked, Followed, fields, passedFrom, pathPassed}
 
 pub record Demands : Type 0 where
   pub theorems : Theorems
@@ -76,15 +76,23 @@ pub record Demands : Type 0 where
   -- any cursor without fault tells its place, which is on the strip
   pub stands : (c : DC.Cursor) (v : DV.Value) → cursorFault c ≡ 0 → WhereSays c v
       → (v .number ≡ 0) × (v .value ≡ placeIn (cursorIn c)) × (v .value < c .k ^ c .n)
-  -- a step of any cursor without fault; refused, it gives the cursor back
-  pub step : (c : DC.Cursor) (q : DT.Stepped) → cursorFault c ≡ 0 → StepSays c q → Steps-on c q
-  pub not-stepped : (c : DC.Cursor) (q : DT.Stepped) → StepSays c q → q .number ≢ 0 → (q .mark ≡ 0) × (q .passed ≡ 0) × (q .cursor ≡ c)
+  -- a step, on or back, of any cursor without fault; refused, it gives the cursor back
+  pub step : (way : Bool) (c : DC.Cursor) (q : DT.Stepped) → cursorFault c ≡ 0 → Says way c q → Steps-on way c q
+  pub not-stepped : (way : Bool) (c : DC.Cursor) (q : DT.Stepped) → Says way c q → q .number ≢ 0 → (q .mark ≡ 0) × (q .passed ≡ 0) × (q .cursor ≡ c)
+  -- a step and the step back, in either order, give every byte of the cursor as it was, lost or not, and pass as many words
+  pub undone : (way : Bool) (c : DC.Cursor) (q b : DT.Stepped) → Says way c q → Says (not way) (q .cursor) b
+      → (b .number ≡ q .number) × (b .passed ≡ q .passed) × (b .cursor ≡ c)
   -- start_cursor at a place, any number of steps, cursor_place: no step is refused, the marks read are the strip's from that place on, the words passed
   -- are those from word to word, and the place is as many further on
   pub walk : (k n p : ℕ) (r : DS.Started) (qs : List DT.Stepped) (d : DC.Cursor) (v : DV.Value) → admitted k n ≡ true → p < k ^ n
       → StartSays k n p r → Walked (r .cursor) qs d → WhereSays d v
       → (r .number ≡ 0) × (fields (λ q. q .number) qs ≡ replicate (length qs) 0) × (fields (λ q. q .mark) qs ≡ marksFrom k n p (length qs))
       × (fields (λ q. q .passed) qs ≡ passedFrom k n p (length qs)) × (v .number ≡ 0) × (v .value ≡ modulo (p + length qs) (k ^ n))
+  -- the same with steps on and back in any order: the marks read and the words passed are those of the path, and the place is where the path ends
+  pub both-ways : (k n p : ℕ) (r : DS.Started) (ways : List Bool) (qs : List DT.Stepped) (d : DC.Cursor) (v : DV.Value) → admitted k n ≡ true → p < k ^ n
+      → StartSays k n p r → Followed Says (r .cursor) ways qs d → WhereSays d v
+      → (r .number ≡ 0) × (fields (λ q. q .number) qs ≡ replicate (length qs) 0) × (fields (λ q. q .mark) qs ≡ pathLetters (k ^ n) (strip k n) ways p)
+      × (fields (λ q. q .passed) qs ≡ pathPassed k n ways p) × (v .number ≡ 0) × (v .value ≡ pathEnd (k ^ n) ways p)
   -- Plans: look_up on the window at a distance in a section of an accepted plan writes that section and that distance, and no byte after them
   pub laid : (s : List ℕ) (i d : ℕ) (t t′ : List ℕ) (r : ℕ) → planFault s ≡ 0 → i < sectionCount s → d + marks s ≤ nthS (sections s) i .long
       → 10 ≤ length t → LookupSays s (window (shades s) (marks s) (nthS (sections s) i .offset + d)) t t′ r

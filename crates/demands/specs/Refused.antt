@@ -19,7 +19,7 @@ use Rattle.lookups.specs.Says.{PlanSays, LookupSays}
 use Rattle.cursors.specs.declared.Cursor as DC
 use Rattle.cursors.specs.declared.Started as DS
 use Rattle.cursors.specs.declared.Stepped as DT
-use Rattle.cursors.specs.Cursors.{cursorIn, tidy, StartSays, WhereSays, StepSays}
+use Rattle.cursors.specs.Cursors.{cursorIn, tidy, StartSays, WhereSays, StepSays, BackSays}
 
 -- no such strip; wrong window, bad mark; off the strip; no such word; lost cursor
 abbrev pub stripRules : ℕ → ℕ → List Rule
@@ -71,6 +71,7 @@ pub record Refusals : Type 0 where
   pub start-cursor : (k n p : ℕ) (r : DS.Started) → StartSays k n p r → r .number ≡ given (placeRules k n p)
   pub cursor-place : (c : DC.Cursor) (r : DV.Value) → WhereSays c r → r .number ≡ given (cursorRules c)
   pub step : (c : DC.Cursor) (r : DT.Stepped) → StepSays c r → r .number ≡ given (cursorRules c)
+  pub step-back : (c : DC.Cursor) (r : DT.Stepped) → BackSays c r → r .number ≡ given (cursorRules c)
   -- 9 applies just when the window, without fault itself, is read nowhere wholly inside a section of the accepted plan
   pub not-laid : (s w : List ℕ) → given (planRules s) ≡ 0 → given (markRules (shades s) (marks s) w) ≡ 0
       → (layingOf s w ≡ 0)

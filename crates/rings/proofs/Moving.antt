@@ -1,46 +1,51 @@
--- The same way in a buffer: the word that is held, the count of words passed, and what each step of `steps::next` makes of them.
-use mathlib.Core.Path.{_≡_, sym, _∙_, ap, subst}
-use mathlib.Core.Bool.{true, false}
+-- The same way in a buffer, on or back: the word that is held, the count of words passed, and what each step to a neighbouring Lyndon word makes of them.
+use mathlib.Core.Path.{_≡_, sym, _∙_, ap, subst, subst₂}
+use mathlib.Core.Bool.{Bool, true, false}
 use mathlib.Core.List.{List, [], _∷_}
-use mathlib.Core.Logic.{_⊎_, inl, inr}
+use mathlib.Core.Logic.{inl, inr}
 use Prim.Native.Nat.{ℕ, zero, suc, _+_, _-_, _%_, _≤_, _<_}
 use native.Mathlib.Omega.{arith}
-use lib.ListN.{length, take, replicate, length-append, length-replicate}
+use native.Mathlib.Numerals.{add-one}
+use lib.ListN.{length, take, set, replicate, length-append, length-replicate}
 use lib.Seq.{length-take-le, take-at}
-use Rattle.theory.specs.Words.{pick}
+use Rattle.theory.specs.Words.{pick, isLyndon}
 use Rattle.theory.specs.Lists.{In}
-use Rattle.theory.specs.Rings.{lyndonsUp, divides}
-use Rattle.theory.specs.Strips.{stripWords}
-use Rattle.theory.specs.Steps.{nextLyndon}
-use Rattle.theory.proofs.Base.{test}
-use Rattle.theory.proofs.Order.{lt-below, lt-le}
+use Rattle.theory.specs.Rings.{lyndonsUp, ringWords, divides}
+use Rattle.theory.specs.Strips.{stripWords, divisorOf}
+use Rattle.theory.specs.Steps.{nextLyndon, wordBefore}
+use Rattle.theory.proofs.Base.{test, nil-of}
 use Rattle.theory.proofs.Lyndon.{lyndon-some}
 use Rattle.theory.proofs.Divisors.{mod-div, div-mod, divides-out, divides-in, divides-le}
 use Rattle.theory.proofs.Listed.{lyndon-up-words, strip-words}
 use Rattle.theory.proofs.Tops.{one-less}
-use Rattle.theory.proofs.Steps.{steps}
 use Rattle.shape.specs.declared.Strip as DS
 use Rattle.shape.proofs.Limits.{limits}
-use Rattle.steps.specs.Steps.{padded, Held, NextIs}
-use Rattle.rings.specs.Moves.{HeldOn, MovedIs}
-use Rattle.rings.proofs.Ways.{after, left, Way, Turn, strip-listed, way-begins, turn, arrived, further-on, going, ended, moved}
-
--- the buffer and the count on the way from u
-pub record Going (k n : ℕ) (u w : List ℕ) (l passed : ℕ) : Type 0 where
-  pub size : length w ≡ n
-  pub fits : l ≤ length w
-  pub listed : In (take l w) (lyndonsUp k n)
-  pub way : Way k n u (take l w) passed
+use Rattle.steps.specs.Steps.{padded, Held, Put, NextIs, PreviousIs}
+use Rattle.rings.specs.Moves.{HeldOn, MovedTo}
+use Rattle.rings.proofs.Directions.{Direction, counted, ahead, Laws, Way, Turn, ended, moved, antisym, way-begins, turn, arrived, further-on}
+use Rattle.rings.proofs.Ways.{forth, back, First, strip-forth, strip-back}
 
 -- a word with zeros after it in a buffer
-zeros-first : (n : ℕ) → 1 ≤ n → padded n [] ≡ padded n (0 ∷ [])
-zeros-first zero h = absurd (omega arith)
-zeros-first (suc m) h =
-    let a : suc m - 0 ≡ suc m = omega arith in
-    ap (λ i. replicate i 0) a ∙ ap (λ i. 0 ∷ replicate i 0) (sym (one-less m))
-
 pub padded-length : (n : ℕ) (y : List ℕ) → length y ≤ n → length (padded n y) ≡ n
 padded-length n y h = omega (arith, length-append y (replicate (n - length y) 0), length-replicate {A = ℕ} (n - length y) 0)
+
+-- in an empty buffer, the word 0; and any other letter, once it is put there
+zeros-cons : (n : ℕ) → 1 ≤ n → padded n [] ≡ 0 ∷ replicate (n - 1) 0
+zeros-cons zero h = absurd (omega arith)
+zeros-cons (suc m) h = let all : suc m - 0 ≡ suc m = omega arith in ap (λ i. replicate i 0) all ∙ ap (λ i. 0 ∷ replicate i 0) (sym (one-less m))
+
+pub zeros-first : {n : ℕ} {w : List ℕ} → 1 ≤ n → w ≡ padded n [] → w ≡ padded n (0 ∷ [])
+zeros-first {n} h e = e ∙ zeros-cons n h
+
+pub letter-put : {n : ℕ} {w : List ℕ} (a : ℕ) → 1 ≤ n → w ≡ padded n [] → set w 0 a ≡ padded n (a ∷ [])
+letter-put {n} a h e = ap (λ v. set v 0 a) (e ∙ zeros-cons n h)
+
+-- a length that divides n, by the remainder
+pub whole : (m n : ℕ) → (m ≡ 0 → ⊥) → n % m ≡ 0 → divides m n ≡ true
+whole m n d e = divides-in (omega (arith, d)) (mod-div m n e)
+
+pub not-whole : (m n : ℕ) → (n % m ≡ 0 → ⊥) → divides m n ≡ false
+not-whole m n f = elim (test (divides m n)) [ inl t ↦ absurd (f (div-mod (divides-out m n t))) | inr t ↦ t ]
 
 -- the word that is held
 module _ {s : DS.Strip} {w : List ℕ} {l : ℕ} (h : HeldOn s w l) where
@@ -53,102 +58,109 @@ module _ {s : DS.Strip} {w : List ℕ} {l : ℕ} (h : HeldOn s w l) where
   pub held-in : In (take l w) (stripWords (s .k) (s .n))
   held-in = strip-words (s .k) (s .n) (take l w) (limits (h .shaped) .some) .1 (ap (λ i. divides i (s .n)) held-length ∙ h .allowed, h .marks, h .lyndon)
 
-  pub way-starts : Going (s .k) (s .n) (take l w) w l 0
-  way-starts =
-      let r = limits (h .shaped) in
-      record { size = h .size; fits = held-fits; listed = strip-listed (s .k) (s .n) (r .two) (r .some) held-in; way = way-begins (s .k) (s .n) (r .two) (r .some) (take l w) held-in }
+  pub forth-on : Laws (forth (divisorOf (s .n)) (s .k) (s .n)) (divisorOf (s .n)) (s .k) (s .n)
+  forth-on = let r = limits (h .shaped) in strip-forth (s .k) (s .n) (r .two) (r .some)
 
--- the Lyndon word after the one that is held
-abbrev nextOf : DS.Strip → List ℕ → ℕ → List ℕ
-nextOf s w l = nextLyndon (s .k) (s .n) (take l w)
+  pub back-on : Laws (back (divisorOf (s .n)) (s .k) (s .n)) (divisorOf (s .n)) (s .k) (s .n)
+  back-on = let r = limits (h .shaped) in strip-back (s .k) (s .n) (r .two) (r .some)
 
--- a turn of the loop: what `next` asks, and where its answer leads
-module _ {s : DS.Strip} {w₀ : List ℕ} {long : ℕ} (h : HeldOn s w₀ long) {w : List ℕ} {l passed : ℕ} (g : Going (s .k) (s .n) (take long w₀) w l passed) where
-  pub next-asks : Held (s .k) w l
-  next-asks =
-      let r = limits (h .shaped) in
-      let m = lyndon-up-words (s .k) (s .n) (take l w) .0 (g .listed) in
-      record { lettered = record { some = omega (arith, r .two); byte = omega (arith, r .most); marks = m .1 }; some = omega (arith, lyndon-some (take l w) (m .2), length-take-le l w (g .fits)); fits = g .fits }
+-- the buffer and the count on the way from u
+pub record Going (d : Direction) (ok : ℕ → Bool) (k n : ℕ) (u w : List ℕ) (l passed : ℕ) : Type 0 where
+  pub size : length w ≡ n
+  pub fits : l ≤ length w
+  pub way : Way d ok k n u (take l w) passed
 
-  module _ {after-w : List ℕ} {r : ℕ} (q : NextIs (s .k) w l after-w r) where
-    next-buffer : after-w ≡ padded (s .n) (nextOf s w l)
-    next-buffer = subst (λ m. after-w ≡ padded m (nextLyndon (s .k) m (take l w))) (g .size) (q .buffer)
+pub way-starts : {s : DS.Strip} {w : List ℕ} {l : ℕ} {d : Direction} → HeldOn s w l → Laws d (divisorOf (s .n)) (s .k) (s .n)
+    → Going d (divisorOf (s .n)) (s .k) (s .n) (take l w) w l 0
+way-starts {s} {w} {l} h r = record { size = h .size; fits = held-fits h; way = way-begins r (take l w) (held-in h) }
 
-    next-size : r ≡ length (nextOf s w l)
-    next-size = subst (λ m. r ≡ length (nextLyndon (s .k) m (take l w))) (g .size) (q .size)
+-- a step's answer, in a buffer of n letters
+module _ {ok : ℕ → Bool} {k n : ℕ} {u w after : List ℕ} {l m passed : ℕ} where
+  pub next-put : Going (forth ok k n) ok k n u w l passed → NextIs k w l after m → Put n (nextLyndon k n (take l w)) after m
+  next-put g q = subst (λ j. Put j (nextLyndon k j (take l w)) after m) (g .size) q
 
-    next-word-is : take r after-w ≡ nextOf s w l
-    next-word-is = ap (take r) next-buffer ∙ take-at (nextOf s w l) _ r (sym next-size)
+  pub previous-put : Going (back ok k n) ok k n u w l passed → PreviousIs k w l after m → Put n (wordBefore k n (take l w)) after m
+  previous-put g q = subst (λ j. Put j (wordBefore k j (take l w)) after m) (g .size) q
 
-    turn-of : Turn (s .k) (s .n) (take long w₀) (take l w) passed
-    turn-of = turn (s .k) (s .n) (limits (h .shaped) .two) (limits (h .shaped) .some) (take long w₀) (take l w) passed (held-in h) (g .listed) (g .way)
+-- the words passed from u to the word of the ring that follows it
+abbrev pub passes : Direction → ℕ → ℕ → List ℕ → ℕ
+passes d k n u = pick (d .past u (d .leads u)) (counted d k n u (d .leads u)) 0
 
-    some-of : In (nextOf s w l) (lyndonsUp (s .k) (s .n)) → 0 < r
-    some-of i =
-        let y = nextOf s w l in
-        omega (arith, next-size, lyndon-some y (lyndon-up-words (s .k) (s .n) y .0 i .2))
+module _ {d : Direction} {ok : ℕ → Bool} {k n : ℕ} (r : Laws d ok k n) {u : List ℕ} (i : In u (ringWords ok k n)) {w : List ℕ} {l passed : ℕ} (g : Going d ok k n u w l passed) where
+  -- what the step asks
+  pub asks : 2 ≤ k → k ≤ 36 → Held k w l
+  asks two most =
+      let (_, letters, lyndon) = lyndon-up-words k n (take l w) .0 (g .way .listed) in
+      record { lettered = record { some = omega arith; byte = omega arith; marks = letters }; some = omega (arith, lyndon-some (take l w) lyndon, length-take-le l w (g .fits)); fits = g .fits }
 
-    -- nothing is left: the way goes on at the first word
-    pub wraps : r ≡ 0 → MovedIs s w₀ long after-w (record { long = 1; passed = 0 })
-    wraps e = elim turn-of [
+  pub asks-back : 2 ≤ k → k ≤ 36 → Held k w l × (isLyndon (take l w) ≡ true)
+  asks-back two most = (asks two most, lyndon-up-words k n (take l w) .0 (g .way .listed) .2)
+
+  -- what follows the word that was held is put in its place
+  module _ {after : List ℕ} {m : ℕ} (q : Put n (d .move (take l w)) after m) where
+    abbrev y : List ℕ
+    y = d .move (take l w)
+
+    put-word : take m after ≡ y
+    put-word = ap (take m) (q .buffer) ∙ take-at y _ m (sym (q .size))
+
+    turn-of : Turn d ok k n u (take l w) passed
+    turn-of = turn r i (g .way)
+
+    some-of : In y (lyndonsUp k n) → 0 < m
+    some-of j = omega (arith, q .size, lyndon-some y (lyndon-up-words k n y .0 j .2))
+
+    -- nothing is left: the buffer is empty, and the way goes on at the first word
+    pub emptied : m ≡ 0 → after ≡ padded n []
+    emptied e = q .buffer ∙ ap (padded n) (nil-of y (sym (q .size) ∙ e))
+
+    pub wraps : {f v : List ℕ} → m ≡ 0 → First d ok k n f → v ≡ padded n f → MovedTo n (d .leads u) (passes d k n u) v (record { long = length f; passed = 0 })
+    wraps {f} {v} e first put = elim turn-of [
       | ended a b z ↦
+          let is : f ≡ d .leads u = antisym r (first .before (d .leads u) (r .lead-in u i)) (z f (first .on-ring)) in
+          record { word = put ∙ ap (padded n) is; size = ap length is; passed = ap (λ t. pick t (counted d k n u (d .leads u)) 0) (sym b) }
+      | moved j a b c o s ↦ absurd (omega (arith, some-of j))
+    ]
+
+    module _ (some : m ≡ 0 → ⊥) where
+      -- the word is not the last
+      record Onward : Type 0 where
+        listed : In y (lyndonsUp k n)
+        past : d .past u y ≡ true
+        near : (z : List ℕ) → In z (ringWords ok k n) → d .past u z ≡ true → d .upto y z ≡ true
+        fewer : ahead d k n (take l w) ≡ suc (ahead d k n y)
+        count : suc passed ≡ counted d k n u y
+        most : suc passed ≤ n
+
+      onward : Onward
+      onward = elim turn-of [
+        | ended a b z ↦ absurd (some (q .size ∙ ap length a))
+        | moved j a b c e f ↦ record { listed = j; past = a; near = b; fewer = c; count = e; most = f }
+      ]
+
+      pub counts : passed < n
+      counts = omega (arith, onward .most)
+
+      pub falls : ahead d k n (take m after) < ahead d k n (take l w)
+      falls = omega (arith, onward .fewer, ap (ahead d k n) put-word)
+
+      pub arrives : ok m ≡ true → MovedTo n (d .leads u) (passes d k n u) after (record { long = m; passed = passed + 1 })
+      arrives t =
+          let o = onward in
+          let is : y ≡ d .leads u = arrived r i (g .way) (o .listed) (o .past) (o .near) (ap ok (sym (q .size)) ∙ t) in
           record {
-            word = next-buffer ∙ ap (padded (s .n)) a ∙ zeros-first (s .n) (limits (h .shaped) .some) ∙ ap (padded (s .n)) (sym z);
-            size = ap length (sym z);
-            passed = ap (λ t. pick t (left (s .k) (s .n) (take long w₀) (take long w₀)) 0) (sym b);
+            word = q .buffer ∙ ap (padded n) is;
+            size = q .size ∙ ap length is;
+            passed = add-one passed ∙ o .count ∙ ap (counted d k n u) is ∙ ap (λ t. pick t (counted d k n u (d .leads u)) 0) (sym (ap (d .past u) (sym is) ∙ o .past));
           }
-      | moved i a b c d f m ↦ absurd (omega (arith, some-of i))
-    ]
 
-    pub counts : (r ≡ 0 → ⊥) → passed < 60
-    counts d = elim turn-of [
-      | ended a b z ↦ absurd (d (next-size ∙ ap length a))
-      | moved i a b c e f m ↦ omega (arith, f, m, limits (h .shaped) .short)
-    ]
-
-    pub falls : (r ≡ 0 → ⊥) → left (s .k) (s .n) (take long w₀) (take r after-w) < left (s .k) (s .n) (take long w₀) (take l w)
-    falls d = elim turn-of [
-      | ended a b z ↦ absurd (d (next-size ∙ ap length a))
-      | moved i a b c e f m ↦ omega (arith, e, ap (left (s .k) (s .n) (take long w₀)) next-word-is)
-    ]
-
-    pub arrives : (r ≡ 0 → ⊥) → s .n % r ≡ 0 → MovedIs s w₀ long after-w (record { long = r; passed = passed + 1 })
-    arrives d t = elim turn-of [
-      | ended a b z ↦ absurd (d (next-size ∙ ap length a))
-      | moved i a b c e f m ↦
-          let g = limits (h .shaped) in
-          let whole : divides (length (nextOf s w l)) (s .n) ≡ true =
-          divides-in (omega (arith, next-size, some-of i)) (mod-div _ (s .n) (ap (λ j. s .n % j) (sym next-size) ∙ t)) in
-          let v : nextOf s w l ≡ after (s .k) (s .n) (take long w₀) =
-          arrived (s .k) (s .n) (g .two) (g .some) (take long w₀) _ (held-in h) i a b whole in
-          let none : left (s .k) (s .n) (take long w₀) (nextOf s w l) ≡ 0 =
-          ap (left (s .k) (s .n) (take long w₀)) v ∙ steps (s .k) (s .n) (g .two) (g .some) .passed-none (after (s .k) (s .n) (take long w₀)) in
-          let all : passed + 1 ≡ left (s .k) (s .n) (take long w₀) (take long w₀) = omega (arith, f, none) in
-          record {
-            word = next-buffer ∙ ap (padded (s .n)) v;
-            size = next-size ∙ ap length v;
-            passed = all ∙ ap (λ t. pick t (left (s .k) (s .n) (take long w₀) (take long w₀)) 0) (sym (lt-below c));
-          }
-    ]
-
-    pub goes-on : (r ≡ 0 → ⊥) → (s .n % r ≡ 0 → ⊥) → Going (s .k) (s .n) (take long w₀) after-w r (passed + 1)
-    goes-on d t = elim turn-of [
-      | ended a b z ↦ absurd (d (next-size ∙ ap length a))
-      | moved i a b c e f m ↦
-          let g = limits (h .shaped) in
-          let short : length (nextOf s w l) ≤ s .n = lyndon-up-words (s .k) (s .n) _ .0 i .0 in
-          let size : length after-w ≡ s .n = ap length next-buffer ∙ padded-length (s .n) (nextOf s w l) short in
+      pub goes-on : ok m ≡ false → Going d ok k n u after m (passed + 1)
+      goes-on t =
+          let o = onward in
+          let size : length after ≡ n = ap length (q .buffer) ∙ padded-length n y (lyndon-up-words k n y .0 (o .listed) .0) in
+          let way : Way d ok k n u y (suc passed) = further-on r i (g .way) (o .listed) (o .past) (o .near) (ap ok (sym (q .size)) ∙ t) (o .count) in
           record {
             size = size;
-            fits = omega (arith, next-size);
-            listed = subst (λ x. In x (lyndonsUp (s .k) (s .n))) (sym next-word-is) i;
-            way =
-                subst (λ x. Way (s .k) (s .n) (take long w₀) x (passed + 1)) (sym next-word-is)
-                (going (lt-le a) (further-on (s .k) (s .n) (g .two) (g .some) (take long w₀) _ (held-in h) b (not-whole (test (divides (length (nextOf s w l)) (s .n))))) (omega (arith, f)));
+            fits = omega (arith, q .size, size, lyndon-up-words k n y .0 (o .listed) .0);
+            way = subst₂ (λ x c. Way d ok k n u x c) (sym put-word) (sym (add-one passed)) way;
           }
-    ]
-      where
-        not-whole : (divides (length (nextOf s w l)) (s .n) ≡ true) ⊎ (divides (length (nextOf s w l)) (s .n) ≡ false)
-            → divides (length (nextOf s w l)) (s .n) ≡ false
-        not-whole (inl y) = absurd (t (ap (λ j. s .n % j) next-size ∙ div-mod (divides-out _ (s .n) y)))
-        not-whole (inr y) = y

@@ -23,7 +23,7 @@ use Rattle.buffers.proofs.Bytes.{handed-on, over-length}
 use Rattle.rings.specs.declared.Moved as DM
 use Rattle.rings.specs.Moves.{HeldOn, MovedIs, clipped}
 use Rattle.rings.proofs.Moving.{padded-length, held-fits, held-length, held-in}
-use Rattle.rings.proofs.Ways.{after, after-in, listed-some, strip-listed}
+use Rattle.rings.proofs.Ways.{after, strip-forth, listed-some}
 
 -- as many letters as are taken
 pub take-counted : (m : ℕ) (w : List ℕ) → take (length (take m w)) w ≡ take m w
@@ -52,7 +52,7 @@ module _ (k n : ℕ) (two : 2 ≤ k) (one : 1 ≤ n) where
       go : After u (stripWords k n) (beforeW u (stripWords k n)) (after k n u) → modulo (placeIn (cursor k n u at) + (length u - at)) (k ^ n) ≡ placeIn (cursor k n (after k n u) 0)
       go (after-larger j l f e) =
           let p : placeIn (cursor k n u at) + (length u - at) ≡ placeIn (cursor k n (after k n u) 0) = omega arith in
-          ap (λ x. modulo x (k ^ n)) p ∙ modulo-small (placeIn (cursor k n (after k n u) 0)) (k ^ n) (place-small (after k n u) 0 j (listed-some k n two one (strip-listed k n two one j)))
+          ap (λ x. modulo x (k ^ n)) p ∙ modulo-small (placeIn (cursor k n (after k n u) 0)) (k ^ n) (place-small (after k n u) 0 j (listed-some k n two one j))
       go (after-last j l z e) =
           let p : placeIn (cursor k n u at) + (length u - at) ≡ k ^ n = omega (arith, strip-long k n two one) in
           ap (λ x. modulo x (k ^ n)) p ∙ modulo-full (k ^ n) ∙ sym z ∙ sym (add-zero (beforeW (after k n u) (stripWords k n)))
@@ -100,12 +100,12 @@ module _ {s : DS.Strip} {w : List ℕ} {l : ℕ} (h : HeldOn s w l) {after-w : L
   moved-word = ap (take (r .long)) (m .word) ∙ take-at (after (s .k) (s .n) (take l w)) _ (r .long) (sym (m .size))
 
   moved-in : In (after (s .k) (s .n) (take l w)) (stripWords (s .k) (s .n))
-  moved-in = after-in (s .k) (s .n) (limits (h .shaped) .two) (limits (h .shaped) .some) (take l w) (held-in h)
+  moved-in = strip-forth (s .k) (s .n) (limits (h .shaped) .two) (limits (h .shaped) .some) .lead-in (take l w) (held-in h)
 
   pub moved-some : 0 < r .long
   moved-some =
       let g = limits (h .shaped) in
-      omega (arith, m .size, listed-some (s .k) (s .n) (g .two) (g .some) (strip-listed (s .k) (s .n) (g .two) (g .some) moved-in))
+      omega (arith, m .size, listed-some (s .k) (s .n) (g .two) (g .some) moved-in)
 
   pub moved-held : HeldOn s after-w (r .long)
   moved-held =

@@ -9,8 +9,8 @@ use Rattle.shape.specs.Shapes.{Shaped}
 use Rattle.steps.specs.Steps.{padded}
 use Rattle.buffers.specs.Buffers.{over}
 use Rattle.theory.specs.Words.{marksOk, isLyndon}
-use Rattle.theory.specs.Rings.{cursor, divides, passedTo}
-use Rattle.theory.specs.Strips.{nextWord}
+use Rattle.theory.specs.Rings.{cursor, divides, passedTo, passedDown}
+use Rattle.theory.specs.Strips.{nextWord, previousWord}
 use Rattle.rings.specs.declared.Moved as DM
 
 -- the first `long` bytes of the buffer are a word of the strip
@@ -21,11 +21,24 @@ pub record HeldOn (s : DS.Strip) (w : List ℕ) (long : ℕ) : Type 0 where
   pub marks : marksOk (s .k) (take long w) ≡ true
   pub lyndon : isLyndon (take long w) ≡ true
 
--- the next word with zeros after it, its length, and the words passed as a cursor's step counts them
-pub record MovedIs (s : DS.Strip) (before : List ℕ) (long : ℕ) (after : List ℕ) (r : DM.Moved) : Type 0 where
-  pub word : after ≡ padded (s .n) (nextWord (cursor (s .k) (s .n) (take long before) 0))
-  pub size : r .long ≡ length (nextWord (cursor (s .k) (s .n) (take long before) 0))
-  pub passed : r .passed ≡ passedTo (s .k) (s .n) (take long before) (nextWord (cursor (s .k) (s .n) (take long before) 0))
+-- a word v with zeros after it, its length, and how many words are passed
+pub record MovedTo (n : ℕ) (v : List ℕ) (passes : ℕ) (after : List ℕ) (r : DM.Moved) : Type 0 where
+  pub word : after ≡ padded n v
+  pub size : r .long ≡ length v
+  pub passed : r .passed ≡ passes
+
+-- to the next word, and to the word before, with the words passed as a cursor's step counts them
+abbrev pub MovedIs : DS.Strip → List ℕ → ℕ → List ℕ → DM.Moved → Type 0
+MovedIs s before long after r =
+    let u = take long before in
+    let v = nextWord (cursor (s .k) (s .n) u 0) in
+    MovedTo (s .n) v (passedTo (s .k) (s .n) u v) after r
+
+abbrev pub BackIs : DS.Strip → List ℕ → ℕ → List ℕ → DM.Moved → Type 0
+BackIs s before long after r =
+    let u = take long before in
+    let v = previousWord (cursor (s .k) (s .n) u 0) in
+    MovedTo (s .n) v (passedDown (s .k) (s .n) u v) after r
 
 -- a word over the start of a buffer, cut where the buffer ends
 abbrev pub clipped : List ℕ → List ℕ → List ℕ

@@ -1,11 +1,11 @@
-// Along the ring of a strip: is it a word of the ring, the next word, and the letters from a place on.
+// Along the ring of a strip: is it a word of the ring, the next word, the word before, and the letters from a place on.
 ghost use mathlib.Core.Path.{_≡_};
 ghost use Prim.Native.Nat.{_<_};
 ghost use lib.ListN.{length, take};
 ghost use Rattle.theory.specs.Lists.{Scratch};
 ghost use Rattle.theory.specs.Rings.{cursor};
 ghost use Rattle.theory.specs.Strips.{cursorOk, placeIn, marksFrom};
-ghost use Rattle.rings.specs.Moves.{HeldOn, MovedIs, clipped};
+ghost use Rattle.rings.specs.Moves.{HeldOn, MovedIs, BackIs, clipped};
 use shape::Strip;
 
 // Is it a word of the strip, and the place in it?
@@ -48,6 +48,31 @@ pub fn next_word(s: Strip, w: &mut [u8], long: usize) -> Moved
         passed += 1;
         if n % l == 0 {
             return Moved { long: l, passed };
+        }
+    }
+}
+
+// The strip's word before the one in the first `long` letters; the last before the first.
+pub fn previous_word(s: Strip, w: &mut [u8], long: usize) -> Moved
+    requires { ⌜ HeldOn s (now w) long ⌝ }
+    ensures { λ r. ⌜ BackIs s (now (w .entry)) long (now (w .exit)) r ⌝ }
+{
+    let k = s.k;
+    let n = s.n as usize;
+    let mut m = long;
+    let mut count = 0;
+    loop {
+        m = steps::previous(k, w, m);
+        if m == 0 {
+            w[0] = (k - 1) as u8;
+            return Moved { passed: 0, long: 1 };
+        }
+        count += 1;
+        if n % m == 0 {
+            return Moved {
+                passed: count,
+                long: m,
+            };
         }
     }
 }

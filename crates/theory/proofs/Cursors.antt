@@ -1,10 +1,9 @@
--- Cursors on a ring: one for each position; a step reads the ring's letter and goes on to the next position, a step back to the one before. Then the
--- strip's.
+-- Cursors on a ring: one for each position; a step reads the ring's letter and goes on to the next position, a step back to the one before.
 use mathlib.Core.Path.{_≡_, refl, sym, _∙_, ap, ap₂, subst}
 use mathlib.Core.Bool.{Bool, true, false, false≢true}
 use mathlib.Core.List.{List, [], _∷_}
 use mathlib.Core.Logic.{inl, inr}
-use Prim.Native.Nat.{ℕ, zero, suc, _+_, _-_, _^_, _≤_, _<_}
+use Prim.Native.Nat.{ℕ, zero, suc, _+_, _-_, _≤_, _<_}
 use native.Mathlib.Omega.{arith}
 use native.Mathlib.Nat.{add-zero}
 use lib.Dec.{ltb, leb}
@@ -13,17 +12,15 @@ use borrow.Author.Tests.{ltb-true, ltb-false, leb-true, lt-ltb}
 use Rattle.theory.specs.Words.{pick, isLyndon, marksOk}
 use Rattle.theory.specs.Lists.{In}
 use Rattle.theory.specs.Rings.{lyndonsUp, Allowed, ringWords, ring, modulo, letterOn, lettersOn, Cursor, cursor, Stepped, goodOn, beforeW, positionOn, atFrom, firstAfter, lastBefore, passedBy, passedTo, passedBack, passedDown, stepOn, backOn, readOn, beside}
-use Rattle.theory.specs.Strips.{divisorOf, stripWords, strip, markAt, cursorOk, placeIn, cursorAt, stepOf, backOf}
-use Rattle.theory.specs.Theorems.{Leads, Cursors-on, Cursors}
+use Rattle.theory.specs.Theorems.{Leads, Cursors-on}
 use Rattle.theory.proofs.Base.{test, and-l, and-r, and-in}
 use Rattle.theory.proofs.Order.{below-lt, le-refl, le-upTo, le-not-below, le-not-lt, not-lt}
 use Rattle.theory.proofs.Listed.{ring-words, ring-ascend}
 use Rattle.theory.proofs.Reading.{modulo-small, modulo-full, letters-modulo, beside-down, beside-round}
 use Rattle.theory.proofs.Passed.{ring-listed, Few, passed-few}
 use Rattle.theory.proofs.Steps.{steps}
-use Rattle.theory.proofs.Rings.{strip-long}
 use Rattle.theory.proofs.Joined.{holds, After, onward, around, Before, backward, from-end, word-inside, word-letter, word-at, position-held, word-after, word-before}
-use Rattle.theory.proofs.Divisors.{divides-le, divisors-allowed}
+use Rattle.theory.proofs.Divisors.{divides-le}
 
 -- where a move x of the cursor (k, n, w, q) leads: to a letter of a word of the ring, which is at position `to`; and it passes at most n words
 pub data Led (ok : ℕ → Bool) (k n : ℕ) (w : List ℕ) (q : ℕ) (x : Stepped) (passes : List ℕ → ℕ) (to : ℕ) : Type 0 where
@@ -82,10 +79,10 @@ module _ (ok : ℕ → Bool) (k n : ℕ) (one : 1 ≤ n) (allowed : Allowed n ok
             let full : suc q ≡ length w = omega (arith, ltb-false (suc q) (length w) t) in
             led (firstAfter w ws ws) 0 (rw t) (rw t) (pick-le _ _ n (λ g. near w _ (ring-listed ok k n i) (ring-listed ok k n j) g (λ y x z. le-upTo (least y x (below-lt w y z))))) (rw t) j b
             (small j b (omega arith))
-        outer t (around j l z e) =
+        outer t (around j each z e) =
             let full : suc q ≡ length w = omega (arith, ltb-false (suc q) (length w) t) in
             let end : suc here-is ≡ total = omega arith in
-            led (firstAfter w ws ws) 0 (rw t) (rw t) (pick-le _ _ n (λ g. absurd (false≢true (sym (le-not-below l) ∙ g)))) (rw t) j (in-some _ j)
+            led (firstAfter w ws ws) 0 (rw t) (rw t) (pick-le _ _ n (λ g. absurd (false≢true (sym (le-not-below (each w i .0)) ∙ g)))) (rw t) j (in-some _ j)
             (add-zero _ ∙ z ∙ sym (modulo-full total) ∙ ap (λ x. modulo x total) (sym end))
 
     back-led : 2 ≤ k → Led ok k n w q (backOn ok (cursor k n w q)) (passedDown k n w) (beside total false here-is)
@@ -194,40 +191,3 @@ pub ring-backward : (ok : ℕ → Bool) (k n : ℕ) → 2 ≤ k → 1 ≤ n → 
     let s = ring ok k n in
     Leads (goodOn ok) (positionOn ok) (backOn ok c) (letterOn (length s) s p) (beside (length s) false p) (passedDown k n (c .word)) n
 ring-backward ok k n two one a = backward-on ok k n one a (passed-few ok k n two one a) two
-
--- the strip is the ring of all divisors
-module _ (k n : ℕ) (two : 2 ≤ k) (one : 1 ≤ n) where
-  on : Cursors-on (divisorOf n) k n
-  on = ring-cursors (divisorOf n) k n two one (divisors-allowed n one)
-
-  long : length (strip k n) ≡ k ^ n
-  long = strip-long k n two one
-
-  -- what a move does there
-  leads-on : (x : Stepped) (p : ℕ) (to : ℕ → ℕ) (passes : List ℕ → ℕ) → x .cursor-is .n ≡ n
-      → Leads (goodOn (divisorOf n)) (positionOn (divisorOf n)) x (letterOn (length (strip k n)) (strip k n) p) (to (length (strip k n))) passes n
-      → Leads cursorOk placeIn x (markAt k n p) (to (k ^ n)) passes n
-  leads-on x p to passes kept (reads, good, position, passed, few) = (
-    reads ∙ ap (λ m. letterOn m (strip k n) p) long,
-    ap (λ m. goodOn (divisorOf m) (x .cursor-is)) kept ∙ good,
-    ap (λ m. positionOn (divisorOf m) (x .cursor-is)) kept ∙ position ∙ ap to long,
-    passed,
-    few,
-  )
-
-pub cursors : Cursors
-cursors = record {
-  there = λ k n p two one h.
-      subst (λ m. (goodOn (divisorOf m) (cursorAt k n p) ≡ true) × (positionOn (divisorOf m) (cursorAt k n p) ≡ p)) (sym (at-kept k n (stripWords k n) p .1))
-      (on k n two one .there p (subst (λ m. p < m) (sym (strip-long k n two one)) h));
-  within = λ c two one g. subst (λ m. placeIn c < m) (strip-long _ _ two one) (on _ _ two one .within c refl refl g);
-  one = λ c two one g. on _ _ two one .one c refl refl g;
-  onward = λ c two one g.
-      leads-on (c .k) (c .n) two one (stepOf c) (placeIn c) (modulo (suc (placeIn c))) (passedTo (c .k) (c .n) (c .word)) (step-kept (divisorOf (c .n)) c .1)
-      (on _ _ two one .onward c refl refl g);
-  backward = λ c two one g.
-      leads-on (c .k) (c .n) two one (backOf c) (placeIn c) (λ m. beside m false (placeIn c)) (passedDown (c .k) (c .n) (c .word)) (back-kept (divisorOf (c .n)) c .1)
-      (ring-backward (divisorOf (c .n)) (c .k) (c .n) two one (divisors-allowed (c .n) one) c refl refl g);
-  reads = λ k n p c two one h.
-      on k n two one .reads p c (subst (λ m. p < m) (sym (strip-long k n two one)) h) ∙ ap (λ m. lettersOn m (strip k n) p c) (strip-long k n two one);
-}

@@ -87,12 +87,20 @@ pub data Holds (k n : ℕ) (ws : List (List ℕ)) (p : ℕ) : Type 0 where
 -- v comes after w: the least larger word, right behind w, or, w being the last, the first
 pub data After (w : List ℕ) (ws : List (List ℕ)) (here-is : ℕ) (v : List ℕ) : Type 0 where
   onward : In v ws → Lt w v → ((y : List ℕ) → In y ws → Lt w y → Le v y) → beforeW v ws ≡ here-is + length w → After w ws here-is v
-  around : In v ws → Le v w → beforeW v ws ≡ 0 → length (joined ws) ≡ here-is + length w → After w ws here-is v
+  around : In v ws → ((y : List ℕ) → In y ws → Le v y × Le y w) → beforeW v ws ≡ 0 → length (joined ws) ≡ here-is + length w → After w ws here-is v
+
+-- the first and the last of an ascending list
+first-least : {u : List ℕ} {us : List (List ℕ)} → Ascending (u ∷ us) → {y : List ℕ} → In y (u ∷ us) → Le u y
+first-least s (here e) = eq-le (sym e)
+first-least {u} s {y} (there i) = lt-le (below-lt u y (s .0 y i))
+
+last-most : (a : List (List ℕ)) {v : List ℕ} → Ascending (a ++ (v ∷ [])) → {y : List ℕ} → In y (a ++ (v ∷ [])) → Le y v
+last-most a s {y} i = elim (in-append-cases a i) [ inl j ↦ lt-le (ascend-before a [] s y j) | inr (here e) ↦ eq-le e ]
 
 after-last : (a : List (List ℕ)) (w : List ℕ) → Ascending (a ++ (w ∷ [])) → After w (a ++ (w ∷ [])) (length (joined a)) (getD (a ++ (w ∷ [])) 0 [])
-after-last [] w t = around (here refl) (le-refl w) (before-is [] w [] t) (omega (arith, length-append w []))
+after-last [] w t = around (here refl) (λ y i. (first-least t i, last-most [] t i)) (before-is [] w [] t) (omega (arith, length-append w []))
 after-last (u ∷ a) w t =
-    around (here refl) (lt-le (first-below u a w [] t)) (before-is [] u (a ++ (w ∷ [])) t)
+    around (here refl) (λ y i. (first-least t i, last-most (u ∷ a) t i)) (before-is [] u (a ++ (w ∷ [])) t)
     (joined-both (u ∷ a) (w ∷ []) ∙ omega (arith, length-append w []))
 
 after-next : (a : List (List ℕ)) (w v : List ℕ) (b : List (List ℕ)) → Ascending (a ++ (w ∷ (v ∷ b))) → After w (a ++ (w ∷ (v ∷ b))) (length (joined a)) v
@@ -152,21 +160,14 @@ before-next a u w b t = backward (in-mid a (w ∷ b)) (below-lt u w (later .0 w 
 before-first : (w : List ℕ) (b : List (List ℕ)) → Ascending (w ∷ b) → Before w (w ∷ b) 0 (getD (w ∷ b) (length (w ∷ b) - 1) [])
 before-first w b t = let (a, v, e) = unsnoc (w ∷ b) (omega arith) in at a v e
   where
-    first : {y : List ℕ} → In y (w ∷ b) → Le w y
-    first (here e) = eq-le (sym e)
-    first {y} (there j) = lt-le (below-lt w y (t .0 y j))
-
     at : (a : List (List ℕ)) (v : List ℕ) → w ∷ b ≡ a ++ (v ∷ []) → Before w (w ∷ b) 0 (getD (w ∷ b) (length (w ∷ b) - 1) [])
-    at a v e = subst (Before w (w ∷ b) 0) (sym (ap (λ r. getD r (length r - 1) []) e ∙ last-of a v)) (from-end into (λ y i. (first i, last y (subst (In y) e i))) refl ends)
+    at a v e = subst (Before w (w ∷ b) 0) (sym (ap (λ r. getD r (length r - 1) []) e ∙ last-of a v)) (from-end into (λ y i. (first-least t i, last-most a up (subst (In y) e i))) refl ends)
       where
         up : Ascending (a ++ (v ∷ []))
         up = subst Ascending e t
 
         into : In v (w ∷ b)
         into = subst (In v) (sym e) (in-mid a [])
-
-        last : (y : List ℕ) → In y (a ++ (v ∷ [])) → Le y v
-        last y i = elim (in-append-cases a i) [ inl j ↦ lt-le (ascend-before a [] up y j) | inr (here q) ↦ eq-le q ]
 
         ends : beforeW v (w ∷ b) + length v ≡ length (joined (w ∷ b))
         ends =

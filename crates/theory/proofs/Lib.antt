@@ -28,6 +28,7 @@ pub mod Places
 pub mod Rings
 pub mod Cursors
 pub mod Back
+pub mod Strips
 pub mod Laying
 pub mod Levels
 pub mod Primes

@@ -112,7 +112,7 @@ latest-of y (w ∷ ws) b h = elim (tri w y) [
         each v (there g) r = f v g r
 
 -- 0 is the first Lyndon word
-zero-first : (y : List ℕ) → 0 < length y → y ≢ 0 ∷ [] → Lt (0 ∷ []) y
+pub zero-first : (y : List ℕ) → 0 < length y → y ≢ 0 ∷ [] → Lt (0 ∷ []) y
 zero-first [] h g = absurd (omega arith)
 zero-first (zero ∷ []) h g = absurd (g refl)
 zero-first (zero ∷ (b ∷ y)) h g = later short
@@ -204,7 +204,7 @@ before-most : {z n : ℕ} {x y : List ℕ} → Before z n y → Member z n x →
 before-most {z} {n} {x} {y} b m l = not-lt (λ r. le-not-lt (subst (λ w. Le w x) (b .then) (next-nearest (b .member) m r)) l)
 
 -- the least word of the list has none before it
-not-zero : {x y : List ℕ} → 0 < length x → Lt x y → y ≢ 0 ∷ []
+pub not-zero : {x y : List ℕ} → 0 < length x → Lt x y → y ≢ 0 ∷ []
 not-zero {x} h l e = elim (test (same x (0 ∷ []))) [
   | inl t ↦ lt-irrefl (subst (λ w. Lt w (0 ∷ [])) (same-eq x (0 ∷ []) t) (subst (λ w. Lt x w) e l))
   | inr t ↦ lt-asym (subst (λ w. Lt x w) e l) (zero-first x h (same-ne t))

@@ -7,8 +7,9 @@ use Rattle.theory.proofs.Turns.{word-laws}
 use Rattle.theory.proofs.Laws.{lyndon-laws}
 use Rattle.theory.proofs.Steps.{steps}
 use Rattle.theory.proofs.Rings.{rings, one-place}
-use Rattle.theory.proofs.Cursors.{ring-cursors, cursors}
+use Rattle.theory.proofs.Cursors.{ring-cursors}
 use Rattle.theory.proofs.Back.{both-ways}
+use Rattle.theory.proofs.Strips.{cursors}
 use Rattle.theory.proofs.Laying.{laid, laid-only}
 use Rattle.theory.proofs.BySum.{summed}
 use Rattle.theory.proofs.Floors.{floors}

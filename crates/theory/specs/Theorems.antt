@@ -181,6 +181,10 @@ pub record Cursors : Type 0 where
   pub backward : (c : Cursor) → 2 ≤ c .k → 1 ≤ c .n → cursorOk c ≡ true
       → let p = placeIn c in
       Leads cursorOk placeIn (backOf c) (markAt (c .k) (c .n) p) (beside (c .k ^ c .n) false p) (passedDown (c .k) (c .n) (c .word)) (c .n)
+  -- there and back
+  pub back-step : (c : Cursor) → 2 ≤ c .k → 1 ≤ c .n → cursorOk c ≡ true → backOf (stepOf c .cursor-is) .cursor-is ≡ c
+  pub step-back : (c : Cursor) → 2 ≤ c .k → 1 ≤ c .n → cursorOk c ≡ true → stepOf (backOf c .cursor-is) .cursor-is ≡ c
+  pub as-many : (c : Cursor) → 2 ≤ c .k → 1 ≤ c .n → cursorOk c ≡ true → stepOf (backOf c .cursor-is) .passed ≡ backOf c .passed
   pub reads : (k n p c : ℕ) → 2 ≤ k → 1 ≤ n → p < k ^ n → readOn (λ d. divides d n) (cursorAt k n p) c ≡ marksFrom k n p c
 
 -- From whichever place n letters are read wholly inside a section, the lookup answers it and the distance.

@@ -24,7 +24,7 @@ cast-long : tie.Need-cast-long
 cast-long c = search needs
 
 returns : tie.Need-returns
-returns c = sym (too-long (c .before .before .before .args .c) (omega arith))
+returns c = let f = c .before .before .before in sym (too-long (f .args .c) (sixty f) (omega arith))
 
 part-letters-below-start : tie.Need-part-letters-below-start
 part-letters-below-start c = search needs

@@ -1,25 +1,21 @@
 -- `onward` moves a cursor without fault by one mark.
-use mathlib.Core.Path.{_≡_, sym}
+use mathlib.Core.Path.{refl, sym}
 use Prim.Native.Nat.{_≤_, _<_}
 use native.Mathlib.Omega.{arith}
 use lib.ListN.{length}
 use lib.Seq.{length-take-le}
 use borrow.Author.Needs.{needs}
-use Rattle.cursors.proofs.Held.{held-short, word-short, place-inside, held-on}
+use Rattle.cursors.proofs.Held.{held-short, held-fits, place-small, held-on}
 use Rattle.cursors.proofs.Moving.{goes-inside, next-short, goes-onward}
 use Rattle.cursors.proofs.onward.Statement.{statement}
 use Rattle.cursors.proofs.onward.Tie as tie
 
--- the start: the buffer has 60 bytes, a word of the strip fits into it, and the place is in it
-module _ (f : tie.Start) where
-  sixty : length (f .args .c .word) ≡ 60
-  sixty = search needs
+-- the start: a word of the strip fits into the buffer, and the place is in it
+fits : (f : tie.Start) → f .args .c .n ≤ length (f .args .c .word)
+fits f = held-fits (f .pre)
 
-  fits : f .args .c .n ≤ length (f .args .c .word)
-  fits = omega (arith, held-short (f .pre) sixty, sixty)
-
-  inside : f .args .c .place < 60
-  inside = omega (arith, place-inside (f .pre) sixty, word-short (f .pre) sixty, fits, sixty)
+inside : (f : tie.Start) → f .args .c .place < 60
+inside f = place-small (f .pre)
 
 -- the start, from where the held word ends
 abbrev behind : tie.Else1 → tie.Start
@@ -34,10 +30,13 @@ array-read-mark c = inside (c .before .before)
 add-next : tie.Need-add-next
 add-next c = omega (arith, inside (c .before .before .before))
 
+within-requires : tie.Need-within-requires
+within-requires c κs = search needs
+
 returns : tie.Need-returns
 returns c =
-    let f = c .before .before .before .before .before in
-    goes-inside (f .pre) (sixty f) (omega arith)
+    let f = c .before .before .before .before .before .before in
+    goes-inside (f .pre) (c .within .ensures) refl (omega arith)
 
 cast-marks : tie.Need-cast-marks
 cast-marks c = search needs
@@ -52,19 +51,19 @@ cast-next-word : tie.Need-cast-next-word
 cast-next-word c = search needs
 
 next-word-requires : tie.Need-next-word-requires
-next-word-requires c κs = let f = behind (c .before .before .before) in held-on (f .pre) (sixty f)
+next-word-requires c κs = let f = behind (c .before .before .before) in held-on (f .pre)
 
 cast-t11 : tie.Need-cast-t11
 cast-t11 c =
     let f = behind (c .before .before .before .before .before .before) in
-    omega (arith, next-short (f .pre) (sixty f) (c .before .before .next-word .ensures), fits f, sixty f)
+    omega (arith, next-short (f .pre) (c .before .before .next-word .ensures), held-short (f .pre))
 
 returns-2 : tie.Need-returns-2
 returns-2 c =
     let f = behind (c .before .before .before .before .before .before) in
-    goes-onward (f .pre) (sixty f) (c .before .before .next-word .ensures) (omega arith)
+    goes-onward (f .pre) (c .before .before .next-word .ensures) (omega arith)
 
 pub onward-spec : {M : Type 1} → statement M
 onward-spec =
     tie.close
-    (tie.spec cast-at array-read-mark add-next returns cast-marks array-borrow-prefix-word slice-aggregate-next-word cast-next-word next-word-requires cast-t11 returns-2)
+    (tie.spec cast-at array-read-mark add-next within-requires returns cast-marks array-borrow-prefix-word slice-aggregate-next-word cast-next-word next-word-requires cast-t11 returns-2)

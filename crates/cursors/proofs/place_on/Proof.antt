@@ -1,10 +1,9 @@
 -- `place_on` tells the place of the strip that a cursor without fault stands on.
-use mathlib.Core.Path.{_≡_, sym, _∙_}
+use mathlib.Core.Path.{sym}
 use native.Mathlib.Omega.{arith}
-use lib.ListN.{length}
 use lib.Seq.{length-take-le}
 use borrow.Author.Needs.{needs}
-use Rattle.cursors.proofs.Held.{held-short, place-inside, held-on}
+use Rattle.cursors.proofs.Held.{held-fits, place-inside, held-on}
 use Rattle.cursors.proofs.Moving.{same-place}
 use Rattle.cursors.proofs.place_on.Statement.{statement}
 use Rattle.cursors.proofs.place_on.Tie as tie
@@ -15,14 +14,12 @@ cast-marks c = search needs
 array-borrow-prefix-word : tie.Need-array-borrow-prefix-word
 array-borrow-prefix-word c =
     let f = c .before .before in
-    let sixty : length (f .args .c .word) ≡ 60 = search needs in
-    omega (arith, held-short (f .pre) sixty)
+    held-fits (f .pre)
 
 slice-aggregate-position : tie.Need-slice-aggregate-position
 slice-aggregate-position c =
     let f = c .before .before .before in
-    let sixty : length (f .args .c .word) ≡ 60 = search needs in
-    sym (length-take-le (f .args .c .n) (f .args .c .word) (omega (arith, held-short (f .pre) sixty)))
+    sym (length-take-le (f .args .c .n) (f .args .c .word) (held-fits (f .pre)))
 
 cast-position : tie.Need-cast-position
 cast-position c = search needs
@@ -33,14 +30,12 @@ cast-position-2 c = search needs
 position-requires : tie.Need-position-requires
 position-requires c κs =
     let f = c .before .before .before .before .before in
-    let sixty : length (f .args .c .word) ≡ 60 = search needs in
-    (held-on (f .pre) sixty, omega (arith, place-inside (f .pre) sixty))
+    (held-on (f .pre), omega (arith, place-inside (f .pre)))
 
 returns : tie.Need-returns
 returns c =
     let f = c .before .before .before .before .before .before .before in
-    let sixty : length (f .args .c .word) ≡ 60 = search needs in
-    c .before .position .ensures .0 ∙ same-place (f .pre) sixty
+    same-place (f .pre) (c .before .position .ensures .0)
 
 pub place-on-spec : {M : Type 1} → statement M
 place-on-spec =

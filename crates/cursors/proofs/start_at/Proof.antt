@@ -43,7 +43,7 @@ cast-t15 c =
 returns : tie.Need-returns
 returns c =
     let held = c .before .before .before .before .before .before in
-    (refl, started-at (held .before .before .before .pre .0) (held .hold .ensures .0))
+    (refl, started-at (held .before .before .before .pre .0) (search needs) (held .hold .ensures .0))
 
 pub start-at-spec : {M : Type 1} → statement M
 start-at-spec =

@@ -1,8 +1,8 @@
 -- `Cursor::step` moves a cursor by one mark; one with a fault comes back as it was.
 use borrow.Author.Needs.{needs}
-use Rattle.calls.proofs.Checks.{refused-by, passed}
-use Rattle.cursors.specs.Cursors.{cursorFault}
-use Rattle.cursors.proofs.Told.{good-on, step-refused, step-answer}
+use Rattle.theory.specs.Strips.{stepOf}
+use Rattle.cursors.specs.Cursors.{cursorIn}
+use Rattle.cursors.proofs.Told.{good-on, move-refused, move-answer}
 use Rattle.cursors.proofs.Cursor.step.Statement.{statement}
 use Rattle.cursors.proofs.Cursor.step.Tie as tie
 
@@ -28,15 +28,14 @@ returns c =
     let refused = c .before in
     let checked = refused .before .before .before in
     let a = checked .before .args .self in
-    let (is, some) = refused-by (cursorFault a) (a .k) (a .n) (checked .check .ensures) (refused .before .number .given .1) in
-    step-refused a (c .lost .result) is some (c .lost .ensures)
+    move-refused (stepOf (cursorIn a)) a (c .lost .result) (checked .check .ensures) (refused .before .number .given .1) (c .lost .ensures)
 
 returns-2 : tie.Need-returns-2
 returns-2 c =
     let known = c .before in
     let checked = known .before .before .before in
     let a = checked .before .args .self in
-    step-answer a (c .onward .result) (passed (cursorFault a) (a .k) (a .n) (checked .check .ensures) (known .before .strip .given .1) .0) (c .onward .ensures)
+    move-answer (stepOf (cursorIn a)) a (c .onward .result) (checked .check .ensures) (known .before .strip .given .1) (c .onward .ensures)
 
 pub step-spec : {M : Type 1} → statement M
 step-spec =

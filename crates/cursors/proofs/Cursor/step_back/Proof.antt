@@ -1,0 +1,43 @@
+-- `Cursor::step_back` moves a cursor back by one mark; one with a fault comes back as it was.
+use borrow.Author.Needs.{needs}
+use Rattle.theory.specs.Strips.{backOf}
+use Rattle.cursors.specs.Cursors.{cursorIn}
+use Rattle.cursors.proofs.Told.{good-on, move-refused, move-answer}
+use Rattle.cursors.proofs.Cursor.step_back.Statement.{statement}
+use Rattle.cursors.proofs.Cursor.step_back.Tie as tie
+
+check-requires : tie.Need-check-requires
+check-requires c κs = search needs
+
+enum-known-number : tie.Need-enum-known-number
+enum-known-number c = search needs
+
+lost-requires : tie.Need-lost-requires
+lost-requires c κs = search needs
+
+enum-known-strip : tie.Need-enum-known-strip
+enum-known-strip c = search needs
+
+backward-requires : tie.Need-backward-requires
+backward-requires c κs =
+    let checked = c .before .before .before in
+    good-on (checked .before .args .self) (checked .check .ensures) (c .before .strip .given .1)
+
+returns : tie.Need-returns
+returns c =
+    let refused = c .before in
+    let checked = refused .before .before .before in
+    let a = checked .before .args .self in
+    move-refused (backOf (cursorIn a)) a (c .lost .result) (checked .check .ensures) (refused .before .number .given .1) (c .lost .ensures)
+
+returns-2 : tie.Need-returns-2
+returns-2 c =
+    let known = c .before in
+    let checked = known .before .before .before in
+    let a = checked .before .args .self in
+    move-answer (backOf (cursorIn a)) a (c .backward .result) (checked .check .ensures) (known .before .strip .given .1) (c .backward .ensures)
+
+pub step-back-spec : {M : Type 1} → statement M
+step-back-spec =
+    tie.close
+    (tie.spec check-requires enum-known-number lost-requires enum-known-strip backward-requires returns returns-2)
