@@ -30,6 +30,7 @@ GIVES = {
     "cursor_place": (0, 1, 10),
     "step": (0, 1, 10),
     "step_cursor": (0, 1, 10),
+    "step_back": (0, 1, 10),
 }
 
 
@@ -70,9 +71,9 @@ def start_lines(body):
 
 def cursor_lines(body):
     cursor = body[0], body[1], tuple(body[2:62]), body[62], body[63]
-    fault, mark, passed, moved = model.cursor_step(cursor)
     yield line("cursor_place", *model.cursor_place(cursor))
-    for call in ("step", "step_cursor"):
+    for call, move in (("step", model.cursor_step), ("step_cursor", model.cursor_step), ("step_back", model.cursor_back)):
+        fault, mark, passed, moved = move(cursor)
         yield line(call, fault, mark, passed, *fields_of(moved))
 
 
@@ -204,11 +205,12 @@ def every_cursor():
 
 
 def large_cursors(chance):
-    """Cursors on large strips, on the last mark of their word too, from which the step goes to the next word; and the same with one fault."""
+    """Cursors on large strips, on the first and the last mark of their word too, from which a step goes to another word; and the same with one
+    fault."""
     for k, n, place in large_places(chance):
         _, cursor = cursor_start(k, n, place)
-        yield ask_cursor(cursor)
-        yield ask_cursor(with_place(cursor, cursor[3] - 1))
+        for at in (cursor[4], 0, cursor[3] - 1):
+            yield ask_cursor(with_place(cursor, at))
         yield from map(ask_cursor, single_faults(cursor))
 
 

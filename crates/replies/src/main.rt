@@ -3,7 +3,7 @@
 //     w  k and n in 8 bytes each, the length of the lent tray in one, a word     is_lyndon, shortest_root, smallest_rotation, lyndon_count
 //     p  a plan                                                                  check_plan
 //     s  k, n and a place in 8 bytes each                                        start_cursor
-//     c  a cursor: k, n, the 60 bytes of its word, long, place                   cursor_place, step, step_cursor
+//     c  a cursor: k, n, the 60 bytes of its word, long, place                   cursor_place, step, step_cursor, step_back
 // tests/replies.py makes asks, and the lines that must come.
 ghost use Prim.Native.Nat.{_+_, _≤_, _<_};
 ghost use lib.ListN.{length};
@@ -193,6 +193,7 @@ fn cursor_asked(ask: &[u8]) {
     valued(b"cursor_place", cursors::cursor_place(cursor));
     stepped(b"step", cursor.step());
     stepped(b"step_cursor", cursors::step_cursor(cursor));
+    stepped(b"step_back", cursor.step_back());
 }
 
 // One ask.
