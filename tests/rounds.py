@@ -25,16 +25,24 @@ def by_the_rule(k, n, place):
         yield mark, passed
 
 
-def by_the_list():
-    """The same from the start of (2, 5), by document 003's list alone: the strip has those of its words whose length divides 5, and a
-    step from one of them to the next passes as many words as the list goes on; none at the wrap."""
-    on_strip = [i for i, end in enumerate(ENDS_5) if 5 % end == 0]
+def listed():
+    """The words of (2, 5) by document 003's list alone, those whose length divides 5, each with its number in the list."""
+    return [(i, letters(word)[:end]) for i, (word, end) in enumerate(zip(LENGTH_5, ENDS_5)) if 5 % end == 0]
+
+
+def by_the_list(words, start):
+    """Mark and words passed of each step along such words, up or down the list, from a place on: a step from one word to the next passes as many
+    as their numbers are apart, none at the wrap."""
     round_once = []
-    for here, following in zip(on_strip, on_strip[1:] + [None]):
-        *marks, last = letters(LENGTH_5[here])[:ENDS_5[here]]
+    for (here, (*marks, last)), following in zip(words, words[1:] + [None]):
         round_once += [(mark, 0) for mark in marks]
-        round_once.append((last, 0 if following is None else following - here))
-    return list(islice(cycle(round_once), STEPS))
+        round_once.append((last, abs(following[0] - here) if following else 0))
+    return list(islice(cycle(round_once), start, start + STEPS))
+
+
+def agree(what, told, walked):
+    if told != walked:
+        sys.exit("%s and the rule differ: %s, %s" % (what, told, walked))
 
 
 def steps(k, n, place):
@@ -43,8 +51,8 @@ def steps(k, n, place):
         _, zeros = cursor_start(k, n, place)
         return [(0,) + cursor_step(zeros)[:3]] * STEPS
     walked = list(by_the_rule(k, n, place))
-    if (k, n, place) == LIST_5 and by_the_list() != walked:
-        sys.exit("rounds: the list of length 5 and the rule differ: %s, %s" % (by_the_list(), walked))
+    if (k, n, place) == LIST_5:
+        agree("rounds: the list of length 5", by_the_list(listed(), place), walked)
     return [((place + i) % k**n, 0) + step for i, step in enumerate(walked)]
 
 
