@@ -124,6 +124,8 @@ TRICKS = (
      "let stepped = cursor.step();", "// let stepped = cursor.step();", "cursors::step lacks a test program that calls it"),
     ("a program that calls a function of its own", "rounds/src",
      "cursor.step()", "step()", "cursors::step lacks a test program that calls it"),
+    ("a program that calls a method of a longer name", "rounds/src",
+     "cursor.step()", "cursor.step_back()", "cursors::step lacks a test program that calls it"),
     ("a use in a comment", "words/src",
      "    buffers::put(k + 1, tray);", "    // buffers::put(k + 1, tray);", "buffers::put lacks a use in another crate"),
     ("an edit of a proof", "theory/edit 1", "specs/Words.antt", "proofs/Words.antt", "theory::proved lacks edits"),
