@@ -33,11 +33,11 @@ pub data Walked : DC.Cursor → List DT.Stepped → DC.Cursor → Type 0 where
   stays : {c : DC.Cursor} → Walked c [] c
   steps : {c d : DC.Cursor} (q : DT.Stepped) {qs : List DT.Stepped} → StepSays c q → Walked (q .cursor) qs d → Walked c (q ∷ qs) d
 
--- the same both ways, by what each way promises
-pub data Followed (Says : Bool → DC.Cursor → DT.Stepped → Type 0) : DC.Cursor → List Bool → List DT.Stepped → DC.Cursor → Type 0 where
-  rests : {c : DC.Cursor} → Followed Says c [] [] c
-  goes : {c d : DC.Cursor} (way : Bool) (q : DT.Stepped) {ways : List Bool} {qs : List DT.Stepped} → Says way c q → Followed Says (q .cursor) ways qs d
-      → Followed Says c (way ∷ ways) (q ∷ qs) d
+-- the same both ways, by what a step of each way promises
+pub data Followed (promise : Bool → DC.Cursor → DT.Stepped → Type 0) : DC.Cursor → List Bool → List DT.Stepped → DC.Cursor → Type 0 where
+  rests : {c : DC.Cursor} → Followed promise c [] [] c
+  goes : {c d : DC.Cursor} (way : Bool) (q : DT.Stepped) {ways : List Bool} {qs : List DT.Stepped} → promise way c q → Followed promise (q .cursor) ways qs d
+      → Followed promise c (way ∷ ways) (q ∷ qs) d
 
 -- one field of each answer
 abbrev pub fields : (DT.Stepped → ℕ) → List DT.Stepped → List ℕ

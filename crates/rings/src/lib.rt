@@ -31,6 +31,9 @@ pub struct Moved {
     pub passed: u64,
 }
 
+// A move over the end leads to a word of one letter, and passes none.
+const AROUND: Moved = Moved { long: 1, passed: 0 };
+
 // The strip's word after the one in the first `long` letters; the first after the last.
 pub fn next_word(s: Strip, w: &mut [u8], long: usize) -> Moved
     requires { ⌜ HeldOn s (now w) long ⌝ }
@@ -43,7 +46,7 @@ pub fn next_word(s: Strip, w: &mut [u8], long: usize) -> Moved
     loop {
         l = steps::next(k, w, l);
         if l == 0 {
-            return Moved { long: 1, passed: 0 };
+            return AROUND;
         }
         passed += 1;
         if n % l == 0 {
@@ -65,13 +68,13 @@ pub fn previous_word(s: Strip, w: &mut [u8], long: usize) -> Moved
         m = steps::previous(k, w, m);
         if m == 0 {
             w[0] = (k - 1) as u8;
-            return Moved { passed: 0, long: 1 };
+            return AROUND;
         }
         count += 1;
         if n % m == 0 {
             return Moved {
-                passed: count,
                 long: m,
+                passed: count,
             };
         }
     }

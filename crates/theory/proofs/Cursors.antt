@@ -14,7 +14,7 @@ use Rattle.theory.specs.Lists.{In}
 use Rattle.theory.specs.Rings.{lyndonsUp, Allowed, ringWords, ring, modulo, letterOn, lettersOn, Cursor, cursor, Stepped, goodOn, beforeW, positionOn, atFrom, firstAfter, lastBefore, passedBy, passedTo, passedBack, passedDown, stepOn, backOn, readOn, beside}
 use Rattle.theory.specs.Theorems.{Leads, Cursors-on}
 use Rattle.theory.proofs.Base.{test, and-l, and-r, and-in}
-use Rattle.theory.proofs.Order.{below-lt, le-refl, le-upTo, le-not-below, le-not-lt, not-lt}
+use Rattle.theory.proofs.Order.{Lt, Le, below-lt, le-refl, le-upTo, le-not-below, le-not-lt, not-lt}
 use Rattle.theory.proofs.Listed.{ring-words, ring-ascend}
 use Rattle.theory.proofs.Reading.{modulo-small, modulo-full, letters-modulo, beside-down, beside-round}
 use Rattle.theory.proofs.Passed.{ring-listed, Few, passed-few}
@@ -45,8 +45,8 @@ module _ (ok : ℕ → Bool) (k n : ℕ) (one : 1 ≤ n) (allowed : Allowed n ok
   in-some : (w : List ℕ) → In w (ringWords ok k n) → 0 < length w
   in-some w i = let (_, _, l, _) = ring-words ok k n w .0 i in leb-true _ _ (and-l (leb 1 (length w)) _ l)
 
-  -- the word w of the ring, and a letter of it
-  module _ (near : Few ok k n) (w : List ℕ) (q : ℕ) (i : In w (ringWords ok k n)) (h : q < length w) where
+  -- a word w of the ring and a letter of it; how few words a step passes is known (Passed)
+  module _ (few : Few ok k n) (w : List ℕ) (q : ℕ) (i : In w (ringWords ok k n)) (h : q < length w) where
     abbrev ws : List (List ℕ)
     ws = ringWords ok k n
 
@@ -59,66 +59,71 @@ module _ (ok : ℕ → Bool) (k n : ℕ) (one : 1 ≤ n) (allowed : Allowed n ok
     inside : {v : List ℕ} {r : ℕ} → In v ws → r < length v → beforeW v ws + r < total
     inside {v} {r} j b = word-inside ws (ring-ascend ok k n) v r j b
 
-    step-led : Led ok k n w q (stepOn ok (cursor k n w q)) (passedTo k n w) (modulo (suc here-is) total)
+    few-between : {u v : List ℕ} → In u ws → In v ws → ((y : List ℕ) → In y ws → Lt u y → Le v y) → passedTo k n u v ≤ n
+    few-between {u} {v} j m near = pick-le _ _ n (λ g. few u v (ring-listed ok k n j) (ring-listed ok k n m) g (λ y x z. le-upTo (near y x (below-lt u y z))))
+
+    -- on: the next letter, or the first of the next word
+    abbrev Led-on : Type 0
+    Led-on = Led ok k n w q (stepOn ok (cursor k n w q)) (passedTo k n w) (modulo (suc here-is) total)
+
+    step-led : Led-on
     step-led = elim (test (ltb (suc q) (length w))) [ inl t ↦ inner t | inr t ↦ outer t (word-after ws (ring-ascend ok k n) w i) ]
       where
         -- a position of the ring is its own remainder
         small : {v : List ℕ} {r : ℕ} → In v ws → r < length v → beforeW v ws + r ≡ suc here-is → beforeW v ws + r ≡ modulo (suc here-is) total
         small j b e = sym (modulo-small _ _ (inside j b)) ∙ ap (λ x. modulo x total) e
 
-        inner : ltb (suc q) (length w) ≡ true → Led ok k n w q (stepOn ok (cursor k n w q)) (passedTo k n w) (modulo (suc here-is) total)
+        inner : ltb (suc q) (length w) ≡ true → Led-on
         inner t =
             let b = ltb-true (suc q) (length w) t in
             let none : passedTo k n w w ≡ 0 = ap (λ x. pick x (passedBy w w (lyndonsUp k n)) 0) (le-not-below (le-refl w)) in
             led w (suc q) (rw t) (rw t (sym none)) (omega (arith, none)) (rw t) i b (small i b (omega arith))
 
-        outer : ltb (suc q) (length w) ≡ false → After w ws (beforeW w ws) (firstAfter w ws ws)
-            → Led ok k n w q (stepOn ok (cursor k n w q)) (passedTo k n w) (modulo (suc here-is) total)
+        outer : ltb (suc q) (length w) ≡ false → After w ws (beforeW w ws) (firstAfter w ws ws) → Led-on
         outer t (onward j l least e) =
             let b = in-some _ j in
             let full : suc q ≡ length w = omega (arith, ltb-false (suc q) (length w) t) in
-            led (firstAfter w ws ws) 0 (rw t) (rw t) (pick-le _ _ n (λ g. near w _ (ring-listed ok k n i) (ring-listed ok k n j) g (λ y x z. le-upTo (least y x (below-lt w y z))))) (rw t) j b
-            (small j b (omega arith))
+            led (firstAfter w ws ws) 0 (rw t) (rw t) (few-between i j least) (rw t) j b (small j b (omega arith))
         outer t (around j each z e) =
             let full : suc q ≡ length w = omega (arith, ltb-false (suc q) (length w) t) in
             let end : suc here-is ≡ total = omega arith in
             led (firstAfter w ws ws) 0 (rw t) (rw t) (pick-le _ _ n (λ g. absurd (false≢true (sym (le-not-below (each w i .0)) ∙ g)))) (rw t) j (in-some _ j)
             (add-zero _ ∙ z ∙ sym (modulo-full total) ∙ ap (λ x. modulo x total) (sym end))
 
-    back-led : 2 ≤ k → Led ok k n w q (backOn ok (cursor k n w q)) (passedDown k n w) (beside total false here-is)
+    -- back: the letter before, or the last of the word before
+    abbrev Led-back : Type 0
+    Led-back = Led ok k n w q (backOn ok (cursor k n w q)) (passedDown k n w) (beside total false here-is)
+
+    abbrev v : List ℕ
+    v = lastBefore w ws (getD ws (length ws - 1) [])
+
+    back-led : 2 ≤ k → Led-back
     back-led two = elim (test (ltb 0 q)) [ inl t ↦ inner t | inr t ↦ outer t (word-before ws (ring-ascend ok k n) w i) ]
       where
-        all : ℕ
-        all = length ws - 1
-
-        inner : ltb 0 q ≡ true → Led ok k n w q (backOn ok (cursor k n w q)) (passedDown k n w) (beside total false here-is)
+        inner : ltb 0 q ≡ true → Led-back
         inner t =
             let some = ltb-true 0 q t in
             let none : passedDown k n w w ≡ 0 = ap (λ x. pick x (passedBack w w (lyndonsUp k n)) 0) (le-not-below (le-refl w)) in
             led w (q - 1) (rw t) (rw t (sym none)) (omega (arith, none)) (rw t) i (omega arith)
             (sym (beside-down here-is total (omega arith) (inside i h) ∙ omega arith))
 
-        -- passing back as many words as on
-        few : {v : List ℕ} → In v ws → passedTo k n v w ≤ n → passedDown k n w v ≤ n
-        few {v} j le = omega (arith, le, steps k n two one .passed-back v w (ring-listed ok k n j) (ring-listed ok k n i))
+        -- back no more words are passed than on
+        few-back : In v ws → passedTo k n v w ≤ n → passedDown k n w v ≤ n
+        few-back j le = omega (arith, le, steps k n two one .passed-back v w (ring-listed ok k n j) (ring-listed ok k n i))
 
-        outer : ltb 0 q ≡ false → Before w ws (beforeW w ws) (lastBefore w ws (getD ws all []))
-            → Led ok k n w q (backOn ok (cursor k n w q)) (passedDown k n w) (beside total false here-is)
+        outer : ltb 0 q ≡ false → Before w ws (beforeW w ws) v → Led-back
         outer t (backward j l most e) =
-            let b = in-some _ j in
+            let b = in-some v j in
             let zero-q : q ≡ 0 = omega (arith, ltb-false 0 q t) in
-            let v = lastBefore w ws (getD ws all []) in
-            led v (length v - 1) (rw t) (rw t)
-            (few j (pick-le _ _ n (λ g. near v w (ring-listed ok k n j) (ring-listed ok k n i) g (λ y x z. le-upTo (not-lt (λ r. le-not-lt (most y x r) (below-lt v y z)))))))
-            (rw t) j (omega arith) (sym (beside-down here-is total (omega arith) (inside i h) ∙ omega arith))
+            led v (length v - 1) (rw t) (rw t) (few-back j (few-between j i (λ y x z. not-lt (λ r. le-not-lt (most y x r) z)))) (rw t) j (omega arith)
+            (sym (beside-down here-is total (omega arith) (inside i h) ∙ omega arith))
         outer t (from-end j each z e) =
-            let b = in-some _ j in
+            let b = in-some v j in
             let zero-q : q ≡ 0 = omega (arith, ltb-false 0 q t) in
-            let v = lastBefore w ws (getD ws all []) in
             let first : here-is ≡ 0 = omega arith in
             let some : 0 < total = omega (arith, inside i h) in
-            led v (length v - 1) (rw t) (rw t) (few j (pick-le _ _ n (λ g. absurd (false≢true (sym (le-not-below (each v j .0)) ∙ g)))))
-            (rw t) j (omega arith) (sym (ap (beside total false) first ∙ beside-round total some ∙ omega arith))
+            led v (length v - 1) (rw t) (rw t) (few-back j (pick-le _ _ n (λ g. absurd (false≢true (sym (le-not-below (each v j .0)) ∙ g))))) (rw t) j (omega arith)
+            (sym (ap (beside total false) first ∙ beside-round total some ∙ omega arith))
 
   -- a fact about the ring's cursors, from those that are written out
   own : (P : Cursor → Type 0) → ((w : List ℕ) (q : ℕ) → P (cursor k n w q)) → (c : Cursor) → c .k ≡ k → c .n ≡ n → P c
@@ -142,16 +147,16 @@ module _ (ok : ℕ → Bool) (k n : ℕ) (one : 1 ≤ n) (allowed : Allowed n ok
 
   letters-read : Few ok k n → (c : ℕ) (w : List ℕ) (q : ℕ) → In w (ringWords ok k n) → q < length w
       → readOn ok (cursor k n w q) c ≡ lettersOn (length (ring ok k n)) (ring ok k n) (beforeW w (ringWords ok k n) + q) c
-  letters-read near zero w q i b = refl
-  letters-read near (suc c) w q i b = elim (step-led near w q i b) [
+  letters-read few zero w q i b = refl
+  letters-read few (suc c) w q i b = elim (step-led few w q i b) [
     | led v r m a o f j d e ↦
         let s = ring ok k n in
         ap₂ (λ a x. a ∷ x) (m ∙ letter-read w q i b)
-        (ap (λ x. readOn ok x c) f ∙ letters-read near c v r j d ∙ ap (λ x. lettersOn (length s) s x c) e ∙ letters-modulo (length s) s _ c)
+        (ap (λ x. readOn ok x c) f ∙ letters-read few c v r j d ∙ ap (λ x. lettersOn (length s) s x c) e ∙ letters-modulo (length s) s _ c)
   ]
 
   cursors-on : Few ok k n → Cursors-on ok k n
-  cursors-on near =
+  cursors-on few =
       let ws = ringWords ok k n in
       let s = ring ok k n in
       let up = ring-ascend ok k n in
@@ -159,10 +164,10 @@ module _ (ok : ℕ → Bool) (k n : ℕ) (one : 1 ≤ n) (allowed : Allowed n ok
         there = λ p h. elim (position-held ws up k n p h) [ holds w q i b e f ↦ rw f (in-good w q i b, e) ];
         within = own _ (λ w q g. let (i, b) = good-in w q g in word-inside ws up w q i b);
         one = own _ (λ w q g. let (i, b) = good-in w q g in word-at ws up k n w q i b);
-        onward = own _ (λ w q g. let (i, b) = good-in w q g in told i b (step-led near w q i b));
+        onward = own _ (λ w q g. let (i, b) = good-in w q g in told i b (step-led few w q i b));
         reads = λ p c h. elim (position-held ws up k n p h) [
           | holds w q i b e f ↦
-              ap (λ x. readOn ok x c) f ∙ letters-read near c w q i b ∙ ap (λ x. lettersOn (length s) s x c) e
+              ap (λ x. readOn ok x c) f ∙ letters-read few c w q i b ∙ ap (λ x. lettersOn (length s) s x c) e
         ];
       }
 
@@ -170,7 +175,7 @@ module _ (ok : ℕ → Bool) (k n : ℕ) (one : 1 ≤ n) (allowed : Allowed n ok
       → let p = positionOn ok c in
       let s = ring ok k n in
       Leads (goodOn ok) (positionOn ok) (backOn ok c) (letterOn (length s) s p) (beside (length s) false p) (passedDown k n (c .word)) n
-  backward-on near two = own _ (λ w q g. let (i, b) = good-in w q g in told i b (back-led near w q i b two))
+  backward-on few two = own _ (λ w q g. let (i, b) = good-in w q g in told i b (back-led few w q i b two))
 
 -- a cursor keeps its k and n: the one at a position, and the one that has moved
 pub at-kept : (k n : ℕ) (ws : List (List ℕ)) (p : ℕ) → (atFrom k n ws p .k ≡ k) × (atFrom k n ws p .n ≡ n)
