@@ -66,11 +66,19 @@ pub record Way (d : Direction) (ok : ℕ → Bool) (k n : ℕ) (u x : List ℕ) 
   pub between : (z : List ℕ) → In z (ringWords ok k n) → d .past u z ≡ true → d .past x z ≡ true
   pub count : passed ≡ counted d k n u x
 
+-- the next word y after x on it: past u, with no word of the ring between; one word more is passed, and one fewer is ahead
+pub record Onward (d : Direction) (ok : ℕ → Bool) (k n : ℕ) (u x y : List ℕ) (passed : ℕ) : Type 0 where
+  pub listed : In y (lyndonsUp k n)
+  pub past : d .past u y ≡ true
+  pub near : (z : List ℕ) → In z (ringWords ok k n) → d .past u z ≡ true → d .upto y z ≡ true
+  pub fewer : ahead d k n x ≡ suc (ahead d k n y)
+  pub count : suc passed ≡ counted d k n u y
+  pub most : suc passed ≤ n
+
 -- where it goes from x: over the end, or to the next word
 pub data Turn (d : Direction) (ok : ℕ → Bool) (k n : ℕ) (u x : List ℕ) (passed : ℕ) : Type 0 where
   ended : d .move x ≡ [] → d .past u (d .leads u) ≡ false → ((y : List ℕ) → In y (ringWords ok k n) → d .upto (d .leads u) y ≡ true) → Turn d ok k n u x passed
-  moved : In (d .move x) (lyndonsUp k n) → d .past u (d .move x) ≡ true → ((z : List ℕ) → In z (ringWords ok k n) → d .past u z ≡ true → d .upto (d .move x) z ≡ true)
-      → ahead d k n x ≡ suc (ahead d k n (d .move x)) → suc passed ≡ counted d k n u (d .move x) → suc passed ≤ n → Turn d ok k n u x passed
+  moved : Onward d ok k n u x (d .move x) passed → Turn d ok k n u x passed
 
 module _ {d : Direction} {ok : ℕ → Bool} {k n : ℕ} (r : Laws d ok k n) where
   -- the order
@@ -136,23 +144,23 @@ module _ {d : Direction} {ok : ℕ → Bool} {k n : ℕ} (r : Laws d ok k n) whe
             let on : d .past u (d .move x) ≡ true = r .trans (way .from) p in
             let ahead-of : (z : List ℕ) → In z (ringWords ok k n) → d .past u z ≡ true → d .upto (d .move x) z ≡ true = λ z m q. near z (r .listed m) (way .between z m q) in
             let count : suc passed ≡ counted d k n u (d .move x) = ap suc (way .count) ∙ sym (one-more j p near (way .from)) in
-            moved j on ahead-of (one-fewer j p near) count (omega (arith, count, r .few u (d .move x) (r .listed i) j on ahead-of))
+            moved (record { listed = j; past = on; near = ahead-of; fewer = one-fewer j p near; count = count; most = omega (arith, count, r .few u (d .move x) (r .listed i) j on ahead-of) })
 
-    module _ {y : List ℕ} (j : In y (lyndonsUp k n)) (p : d .past u y ≡ true) (near : (z : List ℕ) → In z (ringWords ok k n) → d .past u z ≡ true → d .upto y z ≡ true) where
+    module _ {y : List ℕ} (o : Onward d ok k n u x y passed) where
       -- a word of the ring is the one that is looked for
       pub arrived : ok (length y) ≡ true → y ≡ d .leads u
-      arrived o = go (r .neighbour u i)
+      arrived t = go (r .neighbour u i)
         where
           go : Neighbour d ok k n u → y ≡ d .leads u
-          go (onward a b) = antisym (near (d .leads u) (r .lead-in u i) a) (b y (r .of-ring j o) p)
-          go (around a b) = absurd (false≢true (sym (a y (r .of-ring j o)) ∙ p))
+          go (onward a b) = antisym (o .near (d .leads u) (r .lead-in u i) a) (b y (r .of-ring (o .listed) t) (o .past))
+          go (around a b) = absurd (false≢true (sym (a y (r .of-ring (o .listed) t)) ∙ o .past))
 
       -- past any other the way goes on
-      pub further-on : ok (length y) ≡ false → suc passed ≡ counted d k n u y → Way d ok k n u y (suc passed)
-      further-on o c = record { listed = j; from = r .soft p; between = between; count = c }
+      pub further-on : ok (length y) ≡ false → Way d ok k n u y (suc passed)
+      further-on t = record { listed = o .listed; from = r .soft (o .past); between = between; count = o .count }
         where
           between : (z : List ℕ) → In z (ringWords ok k n) → d .past u z ≡ true → d .past y z ≡ true
-          between z m q = elim (r .cases (near z m q)) [
+          between z m q = elim (r .cases (o .near z m q)) [
             | inl s ↦ s
-            | inr s ↦ absurd (false≢true (sym o ∙ ap (λ w. ok (length w)) s ∙ r .ring-ok m))
+            | inr s ↦ absurd (false≢true (sym t ∙ ap (λ w. ok (length w)) s ∙ r .ring-ok m))
           ]

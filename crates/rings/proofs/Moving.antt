@@ -22,7 +22,7 @@ use Rattle.shape.specs.declared.Strip as DS
 use Rattle.shape.proofs.Limits.{limits}
 use Rattle.steps.specs.Steps.{padded, Held, Put, NextIs, PreviousIs}
 use Rattle.rings.specs.Moves.{HeldOn, MovedTo}
-use Rattle.rings.proofs.Directions.{Direction, counted, ahead, Laws, Way, Turn, ended, moved, antisym, way-begins, turn, arrived, further-on}
+use Rattle.rings.proofs.Directions.{Direction, counted, ahead, Laws, Way, Onward, Turn, ended, moved, antisym, way-begins, turn, arrived, further-on}
 use Rattle.rings.proofs.Ways.{forth, back, First, strip-forth, strip-back}
 
 -- a word with zeros after it in a buffer
@@ -119,48 +119,34 @@ module _ {d : Direction} {ok : ℕ → Bool} {k n : ℕ} (r : Laws d ok k n) {u 
       | ended a b z ↦
           let is : f ≡ d .leads u = antisym r (first .before (d .leads u) (r .lead-in u i)) (z f (first .on-ring)) in
           record { word = put ∙ ap (padded n) is; size = ap length is; passed = ap (λ t. pick t (counted d k n u (d .leads u)) 0) (sym b) }
-      | moved j a b c o s ↦ absurd (omega (arith, some-of j))
+      | moved o ↦ absurd (omega (arith, some-of (o .listed)))
     ]
 
     module _ (some : m ≡ 0 → ⊥) where
-      -- the word is not the last
-      record Onward : Type 0 where
-        listed : In y (lyndonsUp k n)
-        past : d .past u y ≡ true
-        near : (z : List ℕ) → In z (ringWords ok k n) → d .past u z ≡ true → d .upto y z ≡ true
-        fewer : ahead d k n (take l w) ≡ suc (ahead d k n y)
-        count : suc passed ≡ counted d k n u y
-        most : suc passed ≤ n
-
-      onward : Onward
-      onward = elim turn-of [
-        | ended a b z ↦ absurd (some (q .size ∙ ap length a))
-        | moved j a b c e f ↦ record { listed = j; past = a; near = b; fewer = c; count = e; most = f }
-      ]
+      next : Onward d ok k n u (take l w) y passed
+      next = elim turn-of [ ended a b z ↦ absurd (some (q .size ∙ ap length a)) | moved o ↦ o ]
 
       pub counts : passed < n
-      counts = omega (arith, onward .most)
+      counts = omega (arith, next .most)
 
       pub falls : ahead d k n (take m after) < ahead d k n (take l w)
-      falls = omega (arith, onward .fewer, ap (ahead d k n) put-word)
+      falls = omega (arith, next .fewer, ap (ahead d k n) put-word)
 
       pub arrives : ok m ≡ true → MovedTo n (d .leads u) (passes d k n u) after (record { long = m; passed = passed + 1 })
       arrives t =
-          let o = onward in
-          let is : y ≡ d .leads u = arrived r i (g .way) (o .listed) (o .past) (o .near) (ap ok (sym (q .size)) ∙ t) in
+          let is : y ≡ d .leads u = arrived r i (g .way) next (ap ok (sym (q .size)) ∙ t) in
           record {
             word = q .buffer ∙ ap (padded n) is;
             size = q .size ∙ ap length is;
-            passed = add-one passed ∙ o .count ∙ ap (counted d k n u) is ∙ ap (λ t. pick t (counted d k n u (d .leads u)) 0) (sym (ap (d .past u) (sym is) ∙ o .past));
+            passed = add-one passed ∙ next .count ∙ ap (counted d k n u) is ∙ ap (λ t. pick t (counted d k n u (d .leads u)) 0) (sym (ap (d .past u) (sym is) ∙ next .past));
           }
 
       pub goes-on : ok m ≡ false → Going d ok k n u after m (passed + 1)
       goes-on t =
-          let o = onward in
-          let size : length after ≡ n = ap length (q .buffer) ∙ padded-length n y (lyndon-up-words k n y .0 (o .listed) .0) in
-          let way : Way d ok k n u y (suc passed) = further-on r i (g .way) (o .listed) (o .past) (o .near) (ap ok (sym (q .size)) ∙ t) (o .count) in
+          let short : length y ≤ n = lyndon-up-words k n y .0 (next .listed) .0 in
+          let size : length after ≡ n = ap length (q .buffer) ∙ padded-length n y short in
           record {
             size = size;
-            fits = omega (arith, q .size, size, lyndon-up-words k n y .0 (o .listed) .0);
-            way = subst₂ (λ x c. Way d ok k n u x c) (sym put-word) (sym (add-one passed)) way;
+            fits = omega (arith, q .size, size, short);
+            way = subst₂ (λ x c. Way d ok k n u x c) (sym put-word) (sym (add-one passed)) (further-on r i (g .way) next (ap ok (sym (q .size)) ∙ t));
           }

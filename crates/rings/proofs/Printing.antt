@@ -10,7 +10,7 @@ use borrow.Rule.Slice.PartMut.{putMid}
 use Rattle.theory.specs.Words.{marksOk, isLyndon}
 use Rattle.theory.specs.Lists.{In}
 use Rattle.theory.specs.Rings.{modulo, letterOn, cursor, beforeW, divides}
-use Rattle.theory.specs.Strips.{divisorOf, stripWords, strip, marksFrom, placeIn}
+use Rattle.theory.specs.Strips.{divisorOf, stripWords, strip, marksFrom, placeIn, nextWord}
 use Rattle.theory.proofs.Divisors.{divides-le}
 use Rattle.theory.proofs.Listed.{ring-ascend, strip-words}
 use Rattle.theory.proofs.Reading.{modulo-small, modulo-full, modulo-plus, letters-length, letters-split, letters-same}
@@ -23,7 +23,11 @@ use Rattle.buffers.proofs.Bytes.{handed-on, over-length}
 use Rattle.rings.specs.declared.Moved as DM
 use Rattle.rings.specs.Moves.{HeldOn, MovedIs, clipped}
 use Rattle.rings.proofs.Moving.{padded-length, held-fits, held-length, held-in}
-use Rattle.rings.proofs.Ways.{after, strip-forth, listed-some}
+use Rattle.rings.proofs.Ways.{strip-forth, listed-some}
+
+-- the strip's word after u
+abbrev after : ℕ → ℕ → List ℕ → List ℕ
+after k n u = nextWord (cursor k n u 0)
 
 -- as many letters as are taken
 pub take-counted : (m : ℕ) (w : List ℕ) → take (length (take m w)) w ≡ take m w

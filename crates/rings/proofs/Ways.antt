@@ -9,16 +9,16 @@ use lib.ListN.{length}
 use borrow.Author.Tests.{lt-ltb}
 use Rattle.theory.specs.Words.{pick, same, below, upTo}
 use Rattle.theory.specs.Lists.{In}
-use Rattle.theory.specs.Rings.{lyndonsUp, Allowed, ringWords, cursor, nextOn, previousOn, passedBy, passedBack}
-use Rattle.theory.specs.Strips.{stripWords, divisorOf, nextWord}
+use Rattle.theory.specs.Rings.{lyndonsUp, Allowed, ringWords, cursor, nextOn, previousOn}
+use Rattle.theory.specs.Strips.{stripWords, divisorOf}
 use Rattle.theory.specs.Steps.{nextLyndon, previousLyndon, wordBefore}
 use Rattle.theory.proofs.Base.{test, and-in}
-use Rattle.theory.proofs.Order.{same-eq, same-ne, lt-below, below-lt, lt-le, le-refl, eq-le, le-cases, le-lt-trans, lt-le-trans, not-lt, le-not-lt, not-below, le-not-below, le-upTo, upTo-le}
+use Rattle.theory.proofs.Order.{same-eq, same-ne, lt-below, below-lt, lt-le, le-refl, eq-le, le-cases, le-lt-trans, lt-le-trans, not-lt, not-below, le-not-below, le-upTo, upTo-le}
 use Rattle.theory.proofs.Lyndon.{lyndon-some, lyndon-out, one-letter}
 use Rattle.theory.proofs.Divisors.{mod-div, divides-in, divisors-allowed}
 use Rattle.theory.proofs.Listed.{lyndon-up-words, ring-words, ring-ascend, strip-words}
 use Rattle.theory.proofs.Steps.{steps, not-zero, zero-first}
-use Rattle.theory.proofs.Passed.{not-top, ring-listed, passed-few}
+use Rattle.theory.proofs.Passed.{not-top, ring-listed, passed-few, passed-few-back}
 use Rattle.theory.proofs.Joined.{onward as after-larger, around as after-last, backward as before-smaller, from-end as before-first, word-after, word-before}
 use Rattle.rings.proofs.Directions.{Direction, Follows, nothing, nearest, onward, around, Laws}
 
@@ -88,12 +88,6 @@ module _ (ok : ℕ → Bool) (k n : ℕ) (two : 2 ≤ k) (one : 1 ≤ n) (allowe
     few = λ u y i j p f. passed-few ok k n two one allowed u y i j p f;
   }
 
-  -- back as many words are passed as on
-  back-few : (u y : List ℕ) → In u L → In y L → below y u ≡ true → ((z : List ℕ) → In z R → below z u ≡ true → upTo z y ≡ true) → passedBack u y L ≤ n
-  back-few u y i j p f =
-      let same-count : passedBack u y L ≡ passedBy y u L = rw p at (steps k n two one .passed-back y u j i) in
-      omega (arith, same-count, passed-few ok k n two one allowed y u j i p (λ z m q. le-upTo {u = u} {v = z} (not-lt (λ l. le-not-lt (upTo-le z y (f z m (lt-below l))) (below-lt y z q)))))
-
   pub back-laws : Laws (back ok k n) ok k n
   back-laws = record {
     trans = λ {x} {y} {z} p q. lt-below (lt-le-trans (below-lt z y q) (upTo-le y x p));
@@ -111,17 +105,13 @@ module _ (ok : ℕ → Bool) (k n : ℕ) (two : 2 ≤ k) (one : 1 ≤ n) (allowe
       | before-smaller j l f e ↦ onward (lt-below l) (λ y m p. le-upTo (f y m (below-lt y u p)))
       | before-first j f z e ↦ around (λ y m. le-not-below (f y m .0)) (λ y m. le-upTo (f y m .1))
     ];
-    few = back-few;
+    few = λ u y i j p f. passed-few-back ok k n two one allowed u y i j p f;
   }
 
 -- the first word of a ring in a direction
 pub record First (d : Direction) (ok : ℕ → Bool) (k n : ℕ) (f : List ℕ) : Type 0 where
   pub on-ring : In f (ringWords ok k n)
   pub before : (y : List ℕ) → In y (ringWords ok k n) → d .upto f y ≡ true
-
--- the strip's word after u
-abbrev pub after : ℕ → ℕ → List ℕ → List ℕ
-after k n u = nextWord (cursor k n u 0)
 
 -- on the strip these are the letters 0 and k−1
 module _ (k n : ℕ) (two : 2 ≤ k) (one : 1 ≤ n) where

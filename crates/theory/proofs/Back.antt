@@ -66,7 +66,7 @@ module _ (ok : ℕ → Bool) (k n : ℕ) (two : 2 ≤ k) (one : 1 ≤ n) (allowe
       let (_, _, _, onward, _) = on .onward b (then .letters) (then .marks) (then .good) in
       let (_, _, _, backward, _) = ring-backward ok k n two one allowed c (g .letters) (g .marks) (g .good) in
       let same : passedDown k n (c .word) (b .word) ≡ passedTo k n (b .word) (c .word) =
-      steps k n two one .passed-back (b .word) (c .word) (good-listed ok k n one allowed b (then .letters) (then .marks) (then .good)) (good-listed ok k n one allowed c (g .letters) (g .marks) (g .good)) in
+      steps k n two one .passed-back (b .word) (c .word) (good-listed ok k n two one allowed b (then .letters) (then .marks) (then .good)) (good-listed ok k n two one allowed c (g .letters) (g .marks) (g .good)) in
       onward ∙ ap (λ x. passedTo k n (b .word) (x .word)) (step-back g) ∙ sym same ∙ sym backward
 
   follows : (ds : List Bool) {c : Cursor} → On c

@@ -14,11 +14,10 @@ use Rattle.theory.specs.Lists.{In}
 use Rattle.theory.specs.Rings.{lyndonsUp, Allowed, ringWords, ring, modulo, letterOn, lettersOn, Cursor, cursor, Stepped, goodOn, beforeW, positionOn, atFrom, firstAfter, lastBefore, passedBy, passedTo, passedBack, passedDown, stepOn, backOn, readOn, beside}
 use Rattle.theory.specs.Theorems.{Leads, Cursors-on}
 use Rattle.theory.proofs.Base.{test, and-l, and-r, and-in}
-use Rattle.theory.proofs.Order.{Lt, Le, below-lt, le-refl, le-upTo, le-not-below, le-not-lt, not-lt}
+use Rattle.theory.proofs.Order.{below-lt, le-refl, le-upTo, le-not-below}
 use Rattle.theory.proofs.Listed.{ring-words, ring-ascend}
 use Rattle.theory.proofs.Reading.{modulo-small, modulo-full, letters-modulo, beside-down, beside-round}
-use Rattle.theory.proofs.Passed.{ring-listed, Few, passed-few}
-use Rattle.theory.proofs.Steps.{steps}
+use Rattle.theory.proofs.Passed.{ring-listed, passed-few, passed-few-back}
 use Rattle.theory.proofs.Joined.{holds, After, onward, around, Before, backward, from-end, word-inside, word-letter, word-at, position-held, word-after, word-before}
 use Rattle.theory.proofs.Divisors.{divides-le}
 
@@ -31,7 +30,7 @@ pick-le : (b : Bool) (a n : ℕ) → (b ≡ true → a ≤ n) → pick b a 0 ≤
 pick-le true a n h = h refl
 pick-le false a n h = omega arith
 
-module _ (ok : ℕ → Bool) (k n : ℕ) (one : 1 ≤ n) (allowed : Allowed n ok) where
+module _ (ok : ℕ → Bool) (k n : ℕ) (two : 2 ≤ k) (one : 1 ≤ n) (allowed : Allowed n ok) where
   good-in : (w : List ℕ) (q : ℕ) → goodOn ok (cursor k n w q) ≡ true → In w (ringWords ok k n) × (q < length w)
   good-in w q h =
       let a = and-l (ok (length w)) _ h in
@@ -45,8 +44,8 @@ module _ (ok : ℕ → Bool) (k n : ℕ) (one : 1 ≤ n) (allowed : Allowed n ok
   in-some : (w : List ℕ) → In w (ringWords ok k n) → 0 < length w
   in-some w i = let (_, _, l, _) = ring-words ok k n w .0 i in leb-true _ _ (and-l (leb 1 (length w)) _ l)
 
-  -- a word w of the ring and a letter of it; how few words a step passes is known (Passed)
-  module _ (few : Few ok k n) (w : List ℕ) (q : ℕ) (i : In w (ringWords ok k n)) (h : q < length w) where
+  -- a word w of the ring and a letter of it
+  module _ (w : List ℕ) (q : ℕ) (i : In w (ringWords ok k n)) (h : q < length w) where
     abbrev ws : List (List ℕ)
     ws = ringWords ok k n
 
@@ -58,9 +57,6 @@ module _ (ok : ℕ → Bool) (k n : ℕ) (one : 1 ≤ n) (allowed : Allowed n ok
 
     inside : {v : List ℕ} {r : ℕ} → In v ws → r < length v → beforeW v ws + r < total
     inside {v} {r} j b = word-inside ws (ring-ascend ok k n) v r j b
-
-    few-between : {u v : List ℕ} → In u ws → In v ws → ((y : List ℕ) → In y ws → Lt u y → Le v y) → passedTo k n u v ≤ n
-    few-between {u} {v} j m near = pick-le _ _ n (λ g. few u v (ring-listed ok k n j) (ring-listed ok k n m) g (λ y x z. le-upTo (near y x (below-lt u y z))))
 
     -- on: the next letter, or the first of the next word
     abbrev Led-on : Type 0
@@ -83,7 +79,8 @@ module _ (ok : ℕ → Bool) (k n : ℕ) (one : 1 ≤ n) (allowed : Allowed n ok
         outer t (onward j l least e) =
             let b = in-some _ j in
             let full : suc q ≡ length w = omega (arith, ltb-false (suc q) (length w) t) in
-            led (firstAfter w ws ws) 0 (rw t) (rw t) (few-between i j least) (rw t) j b (small j b (omega arith))
+            let few : passedTo k n w (firstAfter w ws ws) ≤ n = pick-le _ _ n (λ g. passed-few ok k n two one allowed w _ (ring-listed ok k n i) (ring-listed ok k n j) g (λ y x z. le-upTo (least y x (below-lt w y z)))) in
+            led (firstAfter w ws ws) 0 (rw t) (rw t) few (rw t) j b (small j b (omega arith))
         outer t (around j each z e) =
             let full : suc q ≡ length w = omega (arith, ltb-false (suc q) (length w) t) in
             let end : suc here-is ≡ total = omega arith in
@@ -97,8 +94,8 @@ module _ (ok : ℕ → Bool) (k n : ℕ) (one : 1 ≤ n) (allowed : Allowed n ok
     abbrev v : List ℕ
     v = lastBefore w ws (getD ws (length ws - 1) [])
 
-    back-led : 2 ≤ k → Led-back
-    back-led two = elim (test (ltb 0 q)) [ inl t ↦ inner t | inr t ↦ outer t (word-before ws (ring-ascend ok k n) w i) ]
+    back-led : Led-back
+    back-led = elim (test (ltb 0 q)) [ inl t ↦ inner t | inr t ↦ outer t (word-before ws (ring-ascend ok k n) w i) ]
       where
         inner : ltb 0 q ≡ true → Led-back
         inner t =
@@ -107,22 +104,19 @@ module _ (ok : ℕ → Bool) (k n : ℕ) (one : 1 ≤ n) (allowed : Allowed n ok
             led w (q - 1) (rw t) (rw t (sym none)) (omega (arith, none)) (rw t) i (omega arith)
             (sym (beside-down here-is total (omega arith) (inside i h) ∙ omega arith))
 
-        -- back no more words are passed than on
-        few-back : In v ws → passedTo k n v w ≤ n → passedDown k n w v ≤ n
-        few-back j le = omega (arith, le, steps k n two one .passed-back v w (ring-listed ok k n j) (ring-listed ok k n i))
-
         outer : ltb 0 q ≡ false → Before w ws (beforeW w ws) v → Led-back
         outer t (backward j l most e) =
             let b = in-some v j in
             let zero-q : q ≡ 0 = omega (arith, ltb-false 0 q t) in
-            led v (length v - 1) (rw t) (rw t) (few-back j (few-between j i (λ y x z. not-lt (λ r. le-not-lt (most y x r) z)))) (rw t) j (omega arith)
+            let few : passedDown k n w v ≤ n = pick-le _ _ n (λ g. passed-few-back ok k n two one allowed w v (ring-listed ok k n i) (ring-listed ok k n j) g (λ y x z. le-upTo (most y x (below-lt y w z)))) in
+            led v (length v - 1) (rw t) (rw t) few (rw t) j (omega arith)
             (sym (beside-down here-is total (omega arith) (inside i h) ∙ omega arith))
         outer t (from-end j each z e) =
             let b = in-some v j in
             let zero-q : q ≡ 0 = omega (arith, ltb-false 0 q t) in
             let first : here-is ≡ 0 = omega arith in
             let some : 0 < total = omega (arith, inside i h) in
-            led v (length v - 1) (rw t) (rw t) (few-back j (pick-le _ _ n (λ g. absurd (false≢true (sym (le-not-below (each v j .0)) ∙ g))))) (rw t) j (omega arith)
+            led v (length v - 1) (rw t) (rw t) (pick-le _ _ n (λ g. absurd (false≢true (sym (le-not-below (each v j .0)) ∙ g)))) (rw t) j (omega arith)
             (sym (ap (beside total false) first ∙ beside-round total some ∙ omega arith))
 
   -- a fact about the ring's cursors, from those that are written out
@@ -145,18 +139,18 @@ module _ (ok : ℕ → Bool) (k n : ℕ) (one : 1 ≤ n) (allowed : Allowed n ok
   told {w} {q} {x} {passes} i b (led v r m a o f j d e) =
       (m ∙ letter-read w q i b, ap (goodOn ok) f ∙ in-good v r j d, ap (positionOn ok) f ∙ e, a ∙ ap (λ y. passes (y .word)) (sym f), omega (arith, a, o))
 
-  letters-read : Few ok k n → (c : ℕ) (w : List ℕ) (q : ℕ) → In w (ringWords ok k n) → q < length w
+  letters-read : (c : ℕ) (w : List ℕ) (q : ℕ) → In w (ringWords ok k n) → q < length w
       → readOn ok (cursor k n w q) c ≡ lettersOn (length (ring ok k n)) (ring ok k n) (beforeW w (ringWords ok k n) + q) c
-  letters-read few zero w q i b = refl
-  letters-read few (suc c) w q i b = elim (step-led few w q i b) [
+  letters-read zero w q i b = refl
+  letters-read (suc c) w q i b = elim (step-led w q i b) [
     | led v r m a o f j d e ↦
         let s = ring ok k n in
         ap₂ (λ a x. a ∷ x) (m ∙ letter-read w q i b)
-        (ap (λ x. readOn ok x c) f ∙ letters-read few c v r j d ∙ ap (λ x. lettersOn (length s) s x c) e ∙ letters-modulo (length s) s _ c)
+        (ap (λ x. readOn ok x c) f ∙ letters-read c v r j d ∙ ap (λ x. lettersOn (length s) s x c) e ∙ letters-modulo (length s) s _ c)
   ]
 
-  cursors-on : Few ok k n → Cursors-on ok k n
-  cursors-on few =
+  pub ring-cursors : Cursors-on ok k n
+  ring-cursors =
       let ws = ringWords ok k n in
       let s = ring ok k n in
       let up = ring-ascend ok k n in
@@ -164,18 +158,18 @@ module _ (ok : ℕ → Bool) (k n : ℕ) (one : 1 ≤ n) (allowed : Allowed n ok
         there = λ p h. elim (position-held ws up k n p h) [ holds w q i b e f ↦ rw f (in-good w q i b, e) ];
         within = own _ (λ w q g. let (i, b) = good-in w q g in word-inside ws up w q i b);
         one = own _ (λ w q g. let (i, b) = good-in w q g in word-at ws up k n w q i b);
-        onward = own _ (λ w q g. let (i, b) = good-in w q g in told i b (step-led few w q i b));
+        onward = own _ (λ w q g. let (i, b) = good-in w q g in told i b (step-led w q i b));
         reads = λ p c h. elim (position-held ws up k n p h) [
           | holds w q i b e f ↦
-              ap (λ x. readOn ok x c) f ∙ letters-read few c w q i b ∙ ap (λ x. lettersOn (length s) s x c) e
+              ap (λ x. readOn ok x c) f ∙ letters-read c w q i b ∙ ap (λ x. lettersOn (length s) s x c) e
         ];
       }
 
-  backward-on : Few ok k n → 2 ≤ k → (c : Cursor) → c .k ≡ k → c .n ≡ n → goodOn ok c ≡ true
+  pub ring-backward : (c : Cursor) → c .k ≡ k → c .n ≡ n → goodOn ok c ≡ true
       → let p = positionOn ok c in
       let s = ring ok k n in
       Leads (goodOn ok) (positionOn ok) (backOn ok c) (letterOn (length s) s p) (beside (length s) false p) (passedDown k n (c .word)) n
-  backward-on few two = own _ (λ w q g. let (i, b) = good-in w q g in told i b (back-led few w q i b two))
+  ring-backward = own _ (λ w q g. let (i, b) = good-in w q g in told i b (back-led w q i b))
 
 -- a cursor keeps its k and n: the one at a position, and the one that has moved
 pub at-kept : (k n : ℕ) (ws : List (List ℕ)) (p : ℕ) → (atFrom k n ws p .k ≡ k) × (atFrom k n ws p .n ≡ n)
@@ -187,12 +181,3 @@ step-kept ok c = elim (test (ltb (suc (c .place)) (length (c .word)))) [ inl t �
 
 pub back-kept : (ok : ℕ → Bool) (c : Cursor) → (backOn ok c .cursor-is .k ≡ c .k) × (backOn ok c .cursor-is .n ≡ c .n)
 back-kept ok c = elim (test (ltb 0 (c .place))) [ inl t ↦ rw t (refl, refl) | inr t ↦ rw t (refl, refl) ]
-
-pub ring-cursors : (ok : ℕ → Bool) (k n : ℕ) → 2 ≤ k → 1 ≤ n → Allowed n ok → Cursors-on ok k n
-ring-cursors ok k n two one a = cursors-on ok k n one a (passed-few ok k n two one a)
-
-pub ring-backward : (ok : ℕ → Bool) (k n : ℕ) → 2 ≤ k → 1 ≤ n → Allowed n ok → (c : Cursor) → c .k ≡ k → c .n ≡ n → goodOn ok c ≡ true
-    → let p = positionOn ok c in
-    let s = ring ok k n in
-    Leads (goodOn ok) (positionOn ok) (backOn ok c) (letterOn (length s) s p) (beside (length s) false p) (passedDown k n (c .word)) n
-ring-backward ok k n two one a = backward-on ok k n one a (passed-few ok k n two one a) two

@@ -1,4 +1,4 @@
--- Words passed: a step passes one Lyndon word of length at most n, so from a ring's word to its next at most n are passed.
+-- Words passed: a step passes one Lyndon word of length at most n, so from a ring's word to its next, and to the one before, at most n are passed.
 use mathlib.Core.Path.{_≡_, _∙_, ap, subst}
 use mathlib.Core.Bool.{Bool, true}
 use mathlib.Core.List.{List, [], _∷_}
@@ -8,11 +8,11 @@ use native.Mathlib.Omega.{arith}
 use lib.ListN.{length}
 use Rattle.theory.specs.Words.{below, upTo}
 use Rattle.theory.specs.Lists.{In}
-use Rattle.theory.specs.Rings.{lyndonsUp, ringWords, Allowed, passedBy}
+use Rattle.theory.specs.Rings.{lyndonsUp, ringWords, Allowed, passedBy, passedBack}
 use Rattle.theory.specs.Steps.{nextLyndon}
 use Rattle.theory.specs.Theorems.{Steps}
 use Rattle.theory.proofs.Base.{less, equal, more, cmp}
-use Rattle.theory.proofs.Order.{Lt, Le, lt-below, below-lt, lt-trans, le-cases, le-not-lt, upTo-le}
+use Rattle.theory.proofs.Order.{Lt, Le, lt-below, below-lt, lt-trans, le-cases, not-lt, le-not-lt, le-upTo, upTo-le}
 use Rattle.theory.proofs.Lyndon.{lyndon-some}
 use Rattle.theory.proofs.Listed.{lyndon-up-words, ring-words}
 use Rattle.theory.proofs.Tops.{one-less}
@@ -61,14 +61,17 @@ module _ (ok : ℕ → Bool) (k n : ℕ) (h : 2 ≤ k) (g : 1 ≤ n) (a : Allowe
         | more e ↦ absurd (omega (arith, lyndon-up-words k n x .0 j .0))
       ]
 
--- no more words than n are passed up to a word with no word of the ring before it
-abbrev pub Few : (ℕ → Bool) → ℕ → ℕ → Type 0
-Few ok k n =
-    (u v : List ℕ) → In u (lyndonsUp k n) → In v (lyndonsUp k n) → below u v ≡ true
-    → ((y : List ℕ) → In y (ringWords ok k n) → below u y ≡ true → upTo v y ≡ true) → passedBy u v (lyndonsUp k n) ≤ n
+-- no more than n words are passed from u to v if no word of the ring is between; and from v down to u
+module _ (ok : ℕ → Bool) (k n : ℕ) (h : 2 ≤ k) (g : 1 ≤ n) (a : Allowed n ok) where
+  pub passed-few : (u v : List ℕ) → In u (lyndonsUp k n) → In v (lyndonsUp k n) → below u v ≡ true
+      → ((y : List ℕ) → In y (ringWords ok k n) → below u y ≡ true → upTo v y ≡ true) → passedBy u v (lyndonsUp k n) ≤ n
+  passed-few u v i j l f =
+      elim (on-step h (steps k n h g) i j (below-lt u v l)) [
+        | on y c d b e m ↦ omega (arith, m, lyndon-some y (lyndon-up-words k n y .0 c .2), passed-from ok k n h g a u v j f (suc n) y (omega arith) c d b)
+      ]
 
-pub passed-few : (ok : ℕ → Bool) (k n : ℕ) → 2 ≤ k → 1 ≤ n → Allowed n ok → Few ok k n
-passed-few ok k n h g a u v i j l f =
-    elim (on-step h (steps k n h g) i j (below-lt u v l)) [
-      | on y c d b e m ↦ omega (arith, m, lyndon-some y (lyndon-up-words k n y .0 c .2), passed-from ok k n h g a u v j f (suc n) y (omega arith) c d b)
-    ]
+  pub passed-few-back : (v u : List ℕ) → In v (lyndonsUp k n) → In u (lyndonsUp k n) → below u v ≡ true
+      → ((y : List ℕ) → In y (ringWords ok k n) → below y v ≡ true → upTo y u ≡ true) → passedBack v u (lyndonsUp k n) ≤ n
+  passed-few-back v u j i l f =
+      let same-count : passedBack v u (lyndonsUp k n) ≡ passedBy u v (lyndonsUp k n) = rw l at (steps k n h g .passed-back u v i j) in
+      omega (arith, same-count, passed-few u v i j l (λ y m q. le-upTo {u = v} {v = y} (not-lt (λ r. le-not-lt (upTo-le y u (f y m (lt-below r))) (below-lt u y q)))))
