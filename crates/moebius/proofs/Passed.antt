@@ -9,10 +9,10 @@ use lib.IntN.{ℤ, pos, natAbs, _+ℤ_, _*ℤ_}
 use lib.ListN.{getD}
 use borrow.Author.Tests.{eq-eqb, ne-eqb}
 use Rattle.theory.specs.Words.{keep}
-use Rattle.theory.specs.Lists.{In}
-use Rattle.theory.specs.Sums.{mobius, plus, scaled, countFrom, divisors, running}
-use Rattle.theory.proofs.Lists.{keep-in, keep-append, keep-once}
-use Rattle.theory.proofs.Divisors.{test-div, count-once, in-divisors}
+use Rattle.theory.specs.Lists.{In, countFrom}
+use Rattle.theory.specs.Sums.{mobius, plus, scaled, divisors, running}
+use Rattle.theory.proofs.Lists.{keep-in, keep-append, keep-once, count-once}
+use Rattle.theory.proofs.Divisors.{test-div, in-divisors}
 use Rattle.theory.proofs.Running.{terms-small}
 use Rattle.moebius.specs.Summands.{Summable}
 use Rattle.moebius.proofs.Signed.{plus-is, scaled-is, scaled-small, mobius-small}

@@ -2,7 +2,7 @@
 ghost use mathlib.Core.Path.{_≡_};
 ghost use Prim.Native.Nat.{_/_, _^_, _≤_, _<_};
 ghost use lib.ListN.{length};
-ghost use Rattle.theory.specs.Plans.{beFrom, torn, straightFrom, sectionsFrom, sections, sectionCount, planFault, layingFrom, marks, nthS};
+ghost use Rattle.theory.specs.Plans.{beFrom, torn, straightFrom, sectionsFrom, sections, sectionCount, planFault, layingAt, nthS};
 ghost use Rattle.plans.specs.Opened.{Opens};
 use calls::Checked;
 use calls::refusals;
@@ -90,7 +90,7 @@ pub fn open(plan: &[u8]) -> Checked
 // The number of the section that holds the whole window at a place, plus 1; 0 if none does.
 pub fn laying(plan: &[u8], place: u64) -> u64
     requires { ⌜ (planFault (now plan) ≡ 0) × (place < 2 ^ 60) ⌝ }
-    ensures { λ r. ⌜ r ≡ layingFrom 0 place (marks (now (plan .entry))) (sections (now (plan .entry))) ⌝ }
+    ensures { λ r. ⌜ r ≡ layingAt (now (plan .entry)) place ⌝ }
 {
     let last = place + plan[1] as u64;
     let mut looked = 0;

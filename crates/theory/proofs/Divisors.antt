@@ -1,17 +1,17 @@
 -- Divisors: divisibility as data, the specification's tests reflected, the list of the divisors of a number.
 use mathlib.Core.Path.{_≡_, sym, _∙_, ap}
 use mathlib.Core.Bool.{true}
-use Prim.Native.Nat.{ℕ, zero, suc, _+_, _*_, _/_, _%_, _≤_, _<_}
+use Prim.Native.Nat.{ℕ, zero, suc, _+_, _*_, _/_, _%_, _≤_}
 use native.Mathlib.Omega.{arith}
 use native.Mathlib.Nat.{div-add-mod', mul-mod-left, mul-add-mod-self-right}
 use lib.Dec.{eqb, leb}
 use borrow.Author.Tests.{leb-true, eqb-true, le-leb, eq-eqb}
 use Rattle.theory.specs.Rings.{divides, Allowed}
 use Rattle.theory.specs.Strips.{divisorOf}
-use Rattle.theory.specs.Lists.{In, here, there, Once}
-use Rattle.theory.specs.Sums.{countFrom, divisors}
-use Rattle.theory.proofs.Base.{and-l, and-r, and-in, cmp, less, equal, more}
-use Rattle.theory.proofs.Lists.{in-nil, keep-in, in-keep, keep-once}
+use Rattle.theory.specs.Lists.{In, Once, countFrom}
+use Rattle.theory.specs.Sums.{divisors}
+use Rattle.theory.proofs.Base.{and-l, and-r, and-in}
+use Rattle.theory.proofs.Lists.{keep-in, in-keep, keep-once, count-in, in-count, count-once}
 
 -- d divides n
 pub data Div (d n : ℕ) : Type 0 where
@@ -77,20 +77,6 @@ multiple d n s h = go (divides-out d n h)
 -- all divisors of n are a set of allowed lengths
 pub divisors-allowed : (n : ℕ) → 1 ≤ n → Allowed n (divisorOf n)
 divisors-allowed n h = record { whole = divides-in h (div-refl n); divisor = λ d t. t }
-
--- the l numbers from a on
-pub count-in : (l a : ℕ) {d : ℕ} → In d (countFrom l a) → (a ≤ d) × (d < a + l)
-count-in zero a i = absurd (in-nil i)
-count-in (suc l) a (here e) = (omega arith, omega arith)
-count-in (suc l) a (there i) = let r = count-in l (suc a) i in (omega arith, omega arith)
-
-pub in-count : (l a d : ℕ) → a ≤ d → d < a + l → In d (countFrom l a)
-in-count zero a d h k = absurd (omega arith)
-in-count (suc l) a d h k = elim (cmp a d) [ less q ↦ there (in-count l (suc a) d q (omega arith)) | equal q ↦ here (sym q) | more q ↦ absurd (omega arith) ]
-
-pub count-once : (l a : ℕ) → Once (countFrom l a)
-count-once zero a = tt
-count-once (suc l) a = (λ i. let r = count-in l (suc a) i in omega (arith, r .0), count-once l (suc a))
 
 -- the divisors of a number
 pub divisors-in : (n : ℕ) {d : ℕ} → In d (divisors n) → (1 ≤ d) × (d ≤ n) × Div d n

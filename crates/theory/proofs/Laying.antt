@@ -1,6 +1,6 @@
 -- Laying plans: a window read wholly inside a section is found in that section, at its distance from the section's start.
 -- The place of a window is the place that it was read from (One-place).
-use mathlib.Core.Path.{_≡_, refl, sym, _∙_, ap, ap₂}
+use mathlib.Core.Path.{_≡_, refl, sym, _∙_, ap, ap₂, subst}
 use mathlib.Core.Bool.{Bool, true, false, not}
 use mathlib.Core.List.{List, [], _∷_}
 use mathlib.Core.Logic.{inl, inr}
@@ -9,30 +9,22 @@ use native.Mathlib.Omega.{arith}
 use native.Mathlib.Nat.{add-zero, add-suc, suc-add, zero-add}
 use lib.Dec.{eqb, leb}
 use lib.ListN.{length, drop}
-use borrow.Author.Tests.{leb-true, le-leb, lt-leb, eq-eqb, ne-eqb, eqb-false, not-false}
+use borrow.Author.Tests.{leb-true, le-leb, lt-leb, eq-eqb, ne-eqb, eqb-false, not-true, not-false}
 use Rattle.theory.specs.Words.{firstOf, when, marksOk}
 use Rattle.theory.specs.Strips.{admitted, strip, window, placeOf}
-use Rattle.theory.specs.Plans.{Section, shades, marks, wordFault, sectionCount, sectionsFrom, sections, torn, straightFrom, planFault, holdsAt, layingFrom, nthS, layingOf, distanceOf, lookupFault}
-use Rattle.theory.specs.Theorems.{Laid, Laid-only}
+use Rattle.theory.specs.Plans.{Section, shades, marks, wordFault, sectionCount, sectionsFrom, sections, torn, straightFrom, planFault, holdsAt, layingFrom, nthS, layingAt, layingOf, distanceOf, lookupFault}
+use Rattle.theory.specs.Theorems.{Laid, Laid-only, Laid-at}
 use Rattle.theory.proofs.Base.{test, and-l, and-r, and-in, and-false}
 use Rattle.theory.proofs.Reading.{letters-length}
 use Rattle.theory.proofs.Rings.{admitted-range, one-place, window-marks}
-
--- faults
-first-zero : (a b : ℕ) → firstOf a b ≡ 0 → (a ≡ 0) × (b ≡ 0)
-first-zero zero b h = (refl, h)
-first-zero (suc a) b h = absurd (omega arith)
-
-when-zero : (t : Bool) (c : ℕ) → when t (suc c) ≡ 0 → t ≡ false
-when-zero true c h = absurd (omega arith)
-when-zero false c h = refl
+use Rattle.theory.proofs.Faults.{first-none, when-none}
 
 pub plan-good : (s : List ℕ) → planFault s ≡ 0
     → (torn s ≡ false) × (admitted (shades s) (marks s) ≡ true) × (straightFrom (marks s) (shades s ^ marks s) 0 (sections s) ≡ true)
 plan-good s h =
-    let (a, b) = first-zero (when (torn s) 7) _ h in
-    let (c, d) = first-zero (when (not (admitted (shades s) (marks s))) 1) _ b in
-    (when-zero (torn s) 6 a, not-false _ (when-zero _ 0 c), not-false _ (when-zero _ 7 d))
+    let (a, b) = first-none (when (torn s) 7) _ h in
+    let (c, d) = first-none (when (not (admitted (shades s) (marks s))) 1) _ b in
+    (when-none (torn s) 7 (λ z. omega arith) a, not-false _ (when-none _ 1 (λ z. omega arith) c), not-false _ (when-none _ 8 (λ z. omega arith) d))
 
 -- sections
 pub sections-length : (m : ℕ) (s : List ℕ) → length (sectionsFrom m s) ≡ m
@@ -137,16 +129,31 @@ laying-found j p n (x ∷ xs) h = elim (test (holdsAt p n x)) [ inl t ↦ first 
 -- no fault, so the plan and the word have none, and a section was found
 pub lookup-good : (s w : List ℕ) → lookupFault s w ≡ 0 → (planFault s ≡ 0) × (wordFault (shades s) (marks s) w ≡ 0) × (when (eqb (layingOf s w) 0) 9 ≡ 0)
 lookup-good s w h =
-    let (good, rest) = first-zero (planFault s) _ h in
-    let (word, looked) = first-zero (wordFault (shades s) (marks s) w) _ rest in
+    let (good, rest) = first-none (planFault s) _ h in
+    let (word, looked) = first-none (wordFault (shades s) (marks s) w) _ rest in
     (good, word, looked)
+
+-- the section that a laid window is answered with, from its place p
+record Inside (s : List ℕ) (p : ℕ) (i : ℕ) : Type 0 where
+  listed : i < length (sections s)
+  starts : nthS (sections s) i .offset ≤ p
+  ends : p + marks s ≤ nthS (sections s) i .offset + nthS (sections s) i .long
+
+inside : (s : List ℕ) (p : ℕ) → ¬ (layingAt s p ≡ 0) → Inside s p (layingAt s p - 1)
+inside s p h =
+    let f = laying-found 0 p (marks s) (sections s) h in
+    let e : f .index ≡ layingAt s p - 1 = omega (arith, f .is) in
+    subst (Inside s p) e (record { listed = f .inside; starts = f .starts; ends = f .ends })
 
 pub laid-only : Laid-only
 laid-only s w h =
     let (_, _, looked) = lookup-good s w h in
-    let p = placeOf (shades s) (marks s) w in
-    let f = laying-found 0 p (marks s) (sections s) (eqb-false (layingOf s w) 0 (when-zero (eqb (layingOf s w) 0) 8 looked)) in
-    let e : layingOf s w - 1 ≡ f .index = omega (arith, f .is) in
-    let x : nthS (sections s) (layingOf s w - 1) ≡ nthS (sections s) (f .index) = ap (nthS (sections s)) e in
-    let offset = ap (λ y. y .offset) x in
-    (omega (arith, e, f .inside, sections-length (sectionCount s) (drop 4 s)), omega (arith, offset, f .starts), omega (arith, offset, ap (λ y. y .long) x, f .starts, f .ends))
+    let x = inside s (placeOf (shades s) (marks s) w) (eqb-false (layingOf s w) 0 (when-none (eqb (layingOf s w) 0) 9 (λ z. omega arith) looked)) in
+    (omega (arith, x .listed, sections-length (sectionCount s) (drop 4 s)), omega (arith, x .starts), omega (arith, x .starts, x .ends))
+
+pub laid-at : Laid-at
+laid-at s p good laid =
+    let x = inside s p (eqb-false (layingAt s p) 0 (not-true _ laid)) in
+    let (_, _, straight) = plan-good s good in
+    let y = straight-at (marks s) (shades s ^ marks s) 0 (sections s) (layingAt s p - 1) straight (x .listed) in
+    (omega (arith, x .listed, sections-length (sectionCount s) (drop 4 s)), omega (arith, x .starts), omega (arith, x .ends, y .ends))

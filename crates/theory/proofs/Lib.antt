@@ -29,7 +29,9 @@ pub mod Rings
 pub mod Cursors
 pub mod Back
 pub mod Strips
+pub mod Faults
 pub mod Laying
+pub mod Erasures
 pub mod Levels
 pub mod Primes
 pub mod Mobius

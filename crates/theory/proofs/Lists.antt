@@ -3,11 +3,11 @@ use mathlib.Core.Path.{_≡_, refl, sym, _∙_, ap, ap₂, subst}
 use mathlib.Core.Bool.{Bool, true, false, false≢true}
 use mathlib.Core.List.{List, [], _∷_, _++_, append-assoc, append-nil}
 use mathlib.Core.Logic.{_⊎_, inl, inr}
-use Prim.Native.Nat.{ℕ, zero, suc, _<_}
+use Prim.Native.Nat.{ℕ, zero, suc, _+_, _≤_, _<_}
 use native.Mathlib.Omega.{arith}
 use lib.ListN.{length, getD, take, drop, take-append-drop}
 use Rattle.theory.specs.Words.{pick, keep}
-use Rattle.theory.specs.Lists.{In, here, there, Ascending, Once}
+use Rattle.theory.specs.Lists.{In, here, there, Ascending, Once, countFrom}
 use Rattle.theory.specs.Rings.{joined}
 use Rattle.theory.proofs.Base.{test, cmp, less, equal, more}
 use Rattle.theory.proofs.Order.{Lt, below-lt, lt-below, lt-irrefl}
@@ -15,6 +15,10 @@ use Rattle.theory.proofs.Order.{Lt, below-lt, lt-below, lt-irrefl}
 module _ {A : Type 0} where
   pub in-nil : {x : A} → ¬ In x []
   in-nil i = elim i [ ]
+
+  pub no-members : (xs : List A) → ((x : A) → ¬ In x xs) → xs ≡ []
+  no-members [] h = refl
+  no-members (x ∷ xs) h = absurd (h x (here refl))
 
   pub in-append-left : {x : A} {xs : List A} (ys : List A) → In x xs → In x (xs ++ ys)
   in-append-left ys (here e) = here e
@@ -180,7 +184,21 @@ module _ {A B : Type 0} where
       once-append (f x) (gather f xs) (o x (here refl)) (gather-once f xs (p .1) (λ y i. o y (there i)) (λ y z w i j. h y z w (there i) (there j)))
       (λ w i j. elim (gather-in f xs j) [ gathered z l m ↦ p .0 (subst (λ r. In r xs) (sym (h x z w (here refl) (there l) i m)) l) ])
 
--- the numbers below n
+-- the l numbers from a on
+pub count-in : (l a : ℕ) {d : ℕ} → In d (countFrom l a) → (a ≤ d) × (d < a + l)
+count-in zero a i = absurd (in-nil i)
+count-in (suc l) a (here e) = (omega arith, omega arith)
+count-in (suc l) a (there i) = let r = count-in l (suc a) i in (omega arith, omega arith)
+
+pub in-count : (l a d : ℕ) → a ≤ d → d < a + l → In d (countFrom l a)
+in-count zero a d h k = absurd (omega arith)
+in-count (suc l) a d h k = elim (cmp a d) [ less q ↦ there (in-count l (suc a) d q (omega arith)) | equal q ↦ here (sym q) | more q ↦ absurd (omega arith) ]
+
+pub count-once : (l a : ℕ) → Once (countFrom l a)
+count-once zero a = tt
+count-once (suc l) a = (λ i. let r = count-in l (suc a) i in omega (arith, r .0), count-once l (suc a))
+
+-- the numbers below n, the largest first
 abbrev pub span : ℕ → List ℕ
 span zero = []
 span (suc n) = n ∷ span n

@@ -10,7 +10,8 @@ use Rattle.theory.proofs.Rings.{rings, one-place}
 use Rattle.theory.proofs.Cursors.{ring-cursors}
 use Rattle.theory.proofs.Back.{both-ways}
 use Rattle.theory.proofs.Strips.{cursors}
-use Rattle.theory.proofs.Laying.{laid, laid-only}
+use Rattle.theory.proofs.Laying.{laid, laid-only, laid-at}
+use Rattle.theory.proofs.Erasures.{smudged}
 use Rattle.theory.proofs.BySum.{summed}
 use Rattle.theory.proofs.Floors.{floors}
 use Rattle.theory.proofs.Ends.{ends, strip-ends, short-ends}
@@ -33,6 +34,8 @@ theorems =
       cursors = cursors;
       laid = laid;
       laid-only = laid-only;
+      laid-at = laid-at;
+      smudged = smudged;
       summed = summed;
       floors = floors;
       ends = ends;

@@ -10,5 +10,6 @@ pub mod Rings
 pub mod Steps
 pub mod Strips
 pub mod Plans
+pub mod Erasures
 pub mod Marked
 pub mod Theorems

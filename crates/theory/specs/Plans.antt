@@ -51,7 +51,7 @@ planFault s =
     (when (torn s) 7)
     (firstOf (when (not (admitted (shades s) (marks s))) 1) (when (not (straightFrom (marks s) (shades s ^ marks s) 0 (sections s))) 8))
 
--- the section that holds a whole window at a place: its number plus 1 and the distance
+-- does a section hold the whole window at a place; the number of the first that does, plus 1, or 0
 abbrev pub holdsAt : ℕ → ℕ → Section → Bool
 holdsAt p n x = leb (x .offset) p && leb (p + n) (x .offset + x .long)
 
@@ -62,11 +62,22 @@ layingFrom i p n (x ∷ xs) = elim (holdsAt p n x) [ true ↦ suc i | false ↦ 
 abbrev pub nthS : List Section → ℕ → Section
 nthS xs i = getD xs i (record { offset = 0; long = 0 })
 
+-- of the window at a place: the number of the section that it is laid in, plus 1, or 0; whether it is laid; its distance from the section's start
+abbrev pub layingAt : List ℕ → ℕ → ℕ
+layingAt s p = layingFrom 0 p (marks s) (sections s)
+
+abbrev pub laidAt : List ℕ → ℕ → Bool
+laidAt s p = not (eqb (layingAt s p) 0)
+
+abbrev pub distanceAt : List ℕ → ℕ → ℕ
+distanceAt s p = p - nthS (sections s) (layingAt s p - 1) .offset
+
+-- the same of a window, at the place where it is read
 abbrev pub layingOf : List ℕ → List ℕ → ℕ
-layingOf s w = layingFrom 0 (placeOf (shades s) (marks s) w) (marks s) (sections s)
+layingOf s w = layingAt s (placeOf (shades s) (marks s) w)
 
 abbrev pub distanceOf : List ℕ → List ℕ → ℕ
-distanceOf s w = placeOf (shades s) (marks s) w - nthS (sections s) (layingOf s w - 1) .offset
+distanceOf s w = distanceAt s (placeOf (shades s) (marks s) w)
 
 abbrev pub wordFault : ℕ → ℕ → List ℕ → ℕ
 wordFault k n w = firstOf (when (not (eqb (length w) n)) 2) (when (not (marksOk k w)) 3)

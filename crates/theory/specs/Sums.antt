@@ -7,6 +7,7 @@ use Prim.Native.Nat.{ℕ, zero, suc, _+_, _-_, _*_, _/_, _%_, _^_, _≤_}
 use lib.Dec.{eqb, ltb, leb}
 use lib.ListN.{length, take}
 use Rattle.theory.specs.Words.{pick, same, upTo, smallest, keep, allWords, rank, marksOk}
+use Rattle.theory.specs.Lists.{countFrom}
 
 -- the number of words of w's length whose smallest rotation does not exceed w
 abbrev pub cs : ℕ → List ℕ → ℕ
@@ -58,10 +59,6 @@ By-sum =
     → pos (length w * rank k w) ≡ sumFrom (length w) 1 k w
 
 -- the divisors of n, smallest first; a running sum over a list
-abbrev pub countFrom : ℕ → ℕ → List ℕ
-countFrom zero d = []
-countFrom (suc l) d = d ∷ countFrom l (suc d)
-
 abbrev pub divisors : ℕ → List ℕ
 divisors n = keep (λ d. eqb (n % d) 0) (countFrom n 1)
 

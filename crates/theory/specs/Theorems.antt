@@ -16,7 +16,8 @@ use Rattle.theory.specs.Search.{leastWord}
 use Rattle.theory.specs.Rings.{upWords, lyndonsUp, divides, Allowed, ringWords, ring, modulo, letterOn, lettersOn, Cursor, Stepped, goodOn, beforeW, positionOn, cursorOn, passedBy, passedTo, passedDown, stepOn, backOn, readOn, beside, pathEnd, pathLetters, walkEnd, walkLetters, windowOn, placeOn}
 use Rattle.theory.specs.Steps.{extension, nextLyndon, previousLyndon, period}
 use Rattle.theory.specs.Strips.{admitted, stripWords, strip, markAt, marksFrom, window, placeOf, cursorOk, placeIn, cursorAt, stepOf, backOf}
-use Rattle.theory.specs.Plans.{planFault, sectionCount, shades, marks, sections, nthS, lookupFault, layingOf, distanceOf}
+use Rattle.theory.specs.Plans.{planFault, sectionCount, shades, marks, sections, nthS, layingAt, laidAt, distanceAt, lookupFault, layingOf, distanceOf}
+use Rattle.theory.specs.Erasures.{unread, read, agrees, fitting, filling, smudgeFault, smudgedFault}
 use Rattle.theory.specs.Marked.{Marked}
 
 -- The lists hold just the words that they should, ascending, so each once.
@@ -202,6 +203,34 @@ Laid-only =
     let x = nthS (sections s) i in
     (i < sectionCount s) × (x .offset + distanceOf s w ≡ placeOf (shades s) (marks s) w) × (distanceOf s w + marks s ≤ x .long)
 
+-- The window at a place that is laid, in an accepted plan: its section, its distance there, and that it does not run over the strip's end.
+abbrev pub Laid-at : Type 0
+Laid-at =
+    (s : List ℕ) (p : ℕ) → planFault s ≡ 0 → laidAt s p ≡ true
+    → let i = layingAt s p - 1 in
+    (i < sectionCount s) × (nthS (sections s) i .offset + distanceAt s p ≡ p) × (p + marks s ≤ shades s ^ marks s)
+
+-- Windows with erasures.
+pub record Smudged : Type 0 where
+  -- agreeing: as long, and with the same letter wherever one was read
+  pub agrees-is : (w v : List ℕ)
+      → (agrees w v ≡ true) ↔ ((length w ≡ length v) × ((j : ℕ) → j < length w → getD w j 0 ≢ 255 → getD w j 0 ≡ getD v j 0))
+  -- the words that agree are the fillings; there are no more than the k^e of e erasures
+  pub filling-agrees : (k c : ℕ) (w : List ℕ) → 1 ≤ k → marksOk k (keep read w) ≡ true
+      → (marksOk k (filling k c w) ≡ true) × (agrees w (filling k c w) ≡ true)
+  pub agrees-filling : (k : ℕ) (w v : List ℕ) → marksOk k v ≡ true → agrees w v ≡ true
+      → (c : ℕ) × (c < k ^ length (keep unread w)) × (filling k c w ≡ v)
+  -- the places that fit
+  pub fitting-is : (s w : List ℕ) (p : ℕ)
+      → In p (fitting s w) ↔ ((p < shades s ^ marks s) × (laidAt s p ≡ true) × (agrees w (window (shades s) (marks s) p) ≡ true))
+  -- 9 just when no window that agrees is laid
+  pub nowhere : (s w : List ℕ) → planFault s ≡ 0 → smudgeFault (shades s) (marks s) w ≡ 0
+      → (smudgedFault s w ≡ 9)
+      ↔ ((v : List ℕ) → length v ≡ marks s → marksOk (shades s) v ≡ true → agrees w v ≡ true → laidAt s (placeOf (shades s) (marks s) v) ≡ false)
+  -- a window that was read in full: the plain lookup's refusals, and its place
+  pub in-full : (s w : List ℕ) → keep unread w ≡ []
+      → (smudgedFault s w ≡ lookupFault s w) × (lookupFault s w ≡ 0 → (p : ℕ) → In p (fitting s w) → p ≡ placeOf (shades s) (marks s) w)
+
 -- The sums of document 004, section 3: Möbius values over the divisors, the rank (Lemma 9) and the number of Lyndon words; the order
 -- of summation does not matter, and no running sum is large.
 pub record Summed : Type 0 where
@@ -280,6 +309,8 @@ pub record Theorems : Type 0 where
   pub cursors : Cursors
   pub laid : Laid
   pub laid-only : Laid-only
+  pub laid-at : Laid-at
+  pub smudged : Smudged
   pub summed : Summed
   pub floors : Floors
   pub ends : (ok : ℕ → Bool) (k n : ℕ) → 1 ≤ n → Allowed n ok → Ends ok k n
