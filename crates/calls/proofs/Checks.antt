@@ -3,7 +3,7 @@ use mathlib.Core.Path.{_≡_, refl, sym, _∙_, ap, ap₂, subst}
 use mathlib.Core.Bool.{Bool, true, false, _||_, not, true≢false}
 use mathlib.Core.List.{List}
 use mathlib.Core.Logic.{inl, inr}
-use Prim.Native.Nat.{ℕ, zero, suc, _^_, _≤_, _<_}
+use Prim.Native.Nat.{ℕ, _^_, _≤_, _<_}
 use native.Mathlib.Omega.{arith}
 use lib.Dec.{eqb, leb}
 use lib.ListN.{length}
@@ -12,6 +12,7 @@ use Rattle.theory.specs.Words.{firstOf, when, marksOk}
 use Rattle.theory.specs.Strips.{admitted, stripFault}
 use Rattle.theory.specs.Plans.{wordFault}
 use Rattle.theory.proofs.Base.{test}
+use Rattle.theory.proofs.Faults.{first-some, first-none, when-none, word-fine}
 use Rattle.shape.specs.declared.Strip as DS
 use Rattle.shape.specs.declared.Made.{Made}
 use Rattle.shape.specs.declared.Made.the-variants.{Fine, Refused as None}
@@ -21,19 +22,6 @@ use Rattle.calls.specs.declared.Checked.{Checked}
 use Rattle.calls.specs.declared.Checked.the-variants.{Strip, Refused}
 use Rattle.calls.specs.Refusals.{theWordFault, placeFault}
 use Rattle.calls.specs.Checks.{checkedBy, stripOf, Checks}
-
--- faults in their order
-pub first-some : (a b : ℕ) → ¬ (a ≡ 0) → firstOf a b ≡ a
-first-some zero b h = absurd (h refl)
-first-some (suc a) b h = refl
-
-pub first-none : (a b : ℕ) → firstOf a b ≡ 0 → (a ≡ 0) × (b ≡ 0)
-first-none zero b h = (refl, h)
-first-none (suc a) b h = absurd (omega arith)
-
-pub when-none : (t : Bool) (f : ℕ) → ¬ (f ≡ 0) → when t f ≡ 0 → t ≡ false
-when-none true f h e = absurd (h e)
-when-none false f h e = refl
 
 -- tests of which none holds
 pub or-false : (a b : Bool) → (a || b) ≡ false → (a ≡ false) × (b ≡ false)
@@ -131,11 +119,6 @@ module _ (k n : ℕ) (w : List ℕ) where
 
   pub word-marked : {t : Bool} → length w ≡ n → t ≡ marksOk k w → wordFault k n w ≡ when (not t) 3
   word-marked h e = rw (eq-eqb (length w) n h, e)
-
-pub word-fine : (k n : ℕ) (w : List ℕ) → wordFault k n w ≡ 0 → (length w ≡ n) × (marksOk k w ≡ true)
-word-fine k n w e =
-    let (long, marks) = first-none (when (not (eqb (length w) n)) 2) _ e in
-    (eqb-true (length w) n (not-false _ (when-none _ 2 (λ z. omega arith) long)), not-false _ (when-none _ 3 (λ z. omega arith) marks))
 
 -- a place, and its fault
 pub place-large : (k n p : ℕ) → k ^ n ≤ p → when (leb (k ^ n) p) 4 ≡ 4

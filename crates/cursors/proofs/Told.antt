@@ -9,6 +9,7 @@ use borrow.Author.Tests.{ne-eqb, not-false}
 use Rattle.theory.specs.Words.{when}
 use Rattle.theory.specs.Rings.{Stepped}
 use Rattle.theory.specs.Strips.{cursorOk, cursorAt, stripFault}
+use Rattle.theory.proofs.Faults.{first-none, when-none}
 use Rattle.access.specs.declared.Spot as DP
 use Rattle.access.specs.Holders.{PutAt}
 use Rattle.shape.specs.declared.Strip as DH
@@ -18,7 +19,7 @@ use Rattle.calls.specs.declared.Checked.{Checked}
 use Rattle.calls.specs.declared.Checked.the-variants.{Strip, Refused}
 use Rattle.calls.specs.Refusals.{placeFault}
 use Rattle.calls.specs.Checks.{Checks}
-use Rattle.calls.proofs.Checks.{first-none, when-none, refused-by, passed, strip-refused, strip-then-refused, strip-then-passed, StripIs, strip-is}
+use Rattle.calls.proofs.Checks.{refused-by, passed, strip-refused, strip-then-refused, strip-then-passed, StripIs, strip-is}
 use Rattle.cursors.specs.declared.Cursor as DC
 use Rattle.cursors.specs.declared.Started as DS
 use Rattle.cursors.specs.declared.Stepped as DT

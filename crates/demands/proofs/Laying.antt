@@ -9,12 +9,12 @@ use Rattle.theory.specs.Words.{pick}
 use Rattle.theory.specs.Strips.{window}
 use Rattle.theory.specs.Plans.{be, shades, marks, sectionCount, sections, nthS, planFault, lookupFault, layingOf, distanceOf}
 use Rattle.theory.proofs.Rings.{one-place}
+use Rattle.theory.proofs.Faults.{word-fine}
 use Rattle.theory.proofs.Laying as theory
 use Rattle.buffers.specs.Buffers.{putBe, over}
 use Rattle.buffers.proofs.Bytes.{put-read}
 use Rattle.plans.proofs.Tests.{accepted-whole}
 use Rattle.lookups.specs.Says.{LookupSays}
-use Rattle.calls.proofs.Checks.{word-fine}
 use Rattle.shape.proofs.Limits.{admitted-limits}
 use Rattle.demands.proofs.Trays.{into-fine, answered}
 

@@ -13,11 +13,11 @@ use Rattle.theory.specs.Words.{firstOf, when, marksOk, howMany}
 use Rattle.theory.specs.Strips.{admitted, window, cursorOk}
 use Rattle.theory.specs.Plans.{shades, marks, sectionCount, sections, nthS, planFault, wordFault, torn, straightFrom, layingOf, distanceOf, lookupFault}
 use Rattle.theory.proofs.Rings.{one-place, admitted-range}
+use Rattle.theory.proofs.Faults.{word-fine}
 use Rattle.theory.proofs.Laying as theory
 use Rattle.calls.specs.Order.{given}
 use Rattle.calls.specs.Refusals.{theWordFault, indexFault, placeFault}
 use Rattle.calls.proofs.Order.{given-none, given-first}
-use Rattle.calls.proofs.Checks.{word-fine}
 use Rattle.cursors.specs.declared.Cursor as DC
 use Rattle.cursors.specs.Cursors.{cursorIn, tidy, cursorFault}
 use Rattle.demands.specs.Refused.{markRules, wordRules, placeRules, indexRules, cursorRules, planRules, layingRules, trayRules, Refusals}

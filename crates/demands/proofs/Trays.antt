@@ -15,13 +15,13 @@ use Rattle.theory.specs.Plans.{be, lookupFault, layingOf, distanceOf}
 use Rattle.theory.proofs.Base.{test}
 use Rattle.theory.proofs.Necklaces.{smallest-length}
 use Rattle.theory.proofs.Reading.{letters-length}
+use Rattle.theory.proofs.Faults.{first-none, word-fine}
 use Rattle.shape.proofs.Limits.{admitted-limits}
 use Rattle.buffers.specs.Buffers.{putBe, over}
 use Rattle.buffers.proofs.Bytes.{put-read, over-length}
 use Rattle.calls.specs.declared.Value as DV
 use Rattle.calls.specs.Answers.{Into, Number, ValueIs}
 use Rattle.calls.specs.Refusals.{theWordFault, indexFault, placeFault}
-use Rattle.calls.proofs.Checks.{first-none, word-fine}
 use Rattle.words.proofs.Indexes.{index-range, index-long}
 use Rattle.words.specs.Says.{RotationSays, RankSays, WordSays}
 use Rattle.marks.specs.Says.{MarkSays, PlaceSays, PrintSays}

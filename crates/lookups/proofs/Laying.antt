@@ -8,6 +8,7 @@ use borrow.Author.Tests.{ne-eqb}
 use Rattle.theory.specs.Words.{firstOf, when}
 use Rattle.theory.specs.Strips.{placeOf, stripFault}
 use Rattle.theory.specs.Plans.{shades, marks, sections, sectionCount, nthS, planFault, wordFault, layingFrom, layingOf, distanceOf, lookupFault}
+use Rattle.theory.proofs.Faults.{first-some, first-none, word-fine}
 use Rattle.theory.proofs.Laying.{laid-only}
 use Rattle.theory.proofs.Rings.{one-place}
 use Rattle.shape.specs.declared.Strip as DS
@@ -17,7 +18,7 @@ use Rattle.calls.specs.declared.Checked.{Checked}
 use Rattle.calls.specs.declared.Checked.the-variants.{Strip, Refused}
 use Rattle.calls.specs.Refusals.{theWordFault}
 use Rattle.calls.specs.Checks.{Checks}
-use Rattle.calls.proofs.Checks.{first-some, first-none, refused-by, passed, word-fine}
+use Rattle.calls.proofs.Checks.{refused-by, passed}
 use Rattle.plans.specs.Opened.{Opens, Accepted}
 
 -- a refused plan
