@@ -1,5 +1,5 @@
 -- The form of an answer, for any fault f: a refusal (also as a check tells it), a tray that is too small, the answer itself.
-use mathlib.Core.Path.{_≡_, refl, sym, _∙_, ap₂}
+use mathlib.Core.Path.{_≡_, refl, sym, _∙_, ap, ap₂}
 use mathlib.Core.List.{List, [], _++_}
 use Prim.Native.Nat.{ℕ, zero, suc, _≤_, _<_}
 use lib.Dec.{eqb}
@@ -38,6 +38,10 @@ into-small b t h l e g = rw (h, lt-ltb (length t) (length b) l) (e, g)
 pub into-answer : {f r : ℕ} (b t : List ℕ) {t′ : List ℕ} → f ≡ 0 → length b ≤ length t → r ≡ 0 → t′ ≡ over b t → Into f (pick (eqb f 0) b []) t t′ r
 into-answer b t h l e g = rw (h, le-ltb (length t) (length b) l) (e, g)
 
+-- an answer that was given, where nothing was refused before
+pub into-given : {f r : ℕ} {b x : List ℕ} (t : List ℕ) {t′ : List ℕ} → f ≡ 0 → x ≡ b → Into 0 x t t′ r → Into f (pick (eqb f 0) b []) t t′ r
+into-given t h e g = rw (h, sym e) g
+
 -- a number's 8 bytes into a tray
 pub number-refused-by : (f k n v : ℕ) (t : List ℕ) {c : Checked} {x : ℕ} {t′ : List ℕ} → Checks f k n c → c ≡ Refused x → t′ ≡ t → Number f v t t′ x
 number-refused-by f k n v t e g h = into-refused-by f k n (putBe 8 v) t e g h
@@ -48,9 +52,8 @@ number-small v t h l e g = into-small (putBe 8 v) t h l e g
 pub number-answer : {f r : ℕ} (v : ℕ) (t : List ℕ) {t′ : List ℕ} → f ≡ 0 → 8 ≤ length t → r ≡ 0 → t′ ≡ over (putBe 8 v) t → Number f v t t′ r
 number-answer v t h l e g = into-answer (putBe 8 v) t h l e g
 
--- a number that was given, where nothing was refused before
 pub number-given : {f r v x : ℕ} (t : List ℕ) {t′ : List ℕ} → f ≡ 0 → x ≡ v → Number 0 x t t′ r → Number f v t t′ r
-number-given t {t′} h e g = rw (h, sym e) g
+number-given t h e g = into-given t h (ap (putBe 8) e) g
 
 -- bytes written over the first part of a tray
 pub part-over : {b x : List ℕ} {n : ℕ} (t : List ℕ) → x ≡ b → length b ≡ n → x ++ drop n t ≡ over b t

@@ -125,3 +125,9 @@ pub laying-tray-number : (t s k b c l d : Bool)
     ≡ given (rule 7 t ∷ rule 1 s ∷ rule 8 k ∷ rule 2 b ∷ rule 3 c ∷ rule 9 l ∷ rule 6 d ∷ [])
 laying-tray-number t s k b c l d =
     in-order (rule 7 t ∷ rule 1 s ∷ rule 8 k ∷ rule 2 b ∷ rule 3 c ∷ rule 9 l ∷ rule 6 d ∷ []) (simp (first-assoc, first-zero)) refl
+
+pub smudged-tray-number : (t s k b e c l d : Bool)
+    → firstOf (firstOf (firstOf (when t 7) (firstOf (when s 1) (when k 8))) (firstOf (firstOf (when b 2) (firstOf (when e 11) (when c 3))) (when l 9))) (when d 6)
+    ≡ given (rule 7 t ∷ rule 1 s ∷ rule 8 k ∷ rule 2 b ∷ rule 11 e ∷ rule 3 c ∷ rule 9 l ∷ rule 6 d ∷ [])
+smudged-tray-number t s k b e c l d =
+    in-order (rule 7 t ∷ rule 1 s ∷ rule 8 k ∷ rule 2 b ∷ rule 11 e ∷ rule 3 c ∷ rule 9 l ∷ rule 6 d ∷ []) (simp (first-assoc, first-zero)) refl

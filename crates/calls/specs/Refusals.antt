@@ -1,6 +1,6 @@
 -- The numbers that a call gives back. Each call takes the first that applies, in the one order (Order).
--- The faults of a plan and of a lookup (7, 8, 9) stand in theory's Plans, of which theorems speak; that of a cursor (10) in cursors, of whose bytes it
--- speaks; 6 is part of the form of an answer (Answers).
+-- The faults of a plan and of a lookup (7, 8, 9) stand in theory's Plans, those of a window with erasures (11) in its Erasures, since theorems speak of
+-- them; that of a cursor (10) in cursors, of whose bytes it speaks; 6 is part of the form of an answer (Answers).
 use mathlib.Core.Bool.{_||_}
 use mathlib.Core.List.{List}
 use Prim.Native.Nat.{ℕ, _^_}

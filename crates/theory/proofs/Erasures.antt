@@ -6,9 +6,9 @@ use mathlib.Core.Logic.{_⊎_, inl, inr, _↔_, _≢_}
 use Prim.Native.Nat.{ℕ, zero, suc, _+_, _*_, _/_, _%_, _^_, _≤_, _<_}
 use native.Mathlib.Omega.{arith}
 use native.Mathlib.Nat.{mod-lt, pow-zero, pow-succ', mul-le-mul-left, add-mul-mod-self-left, add-mul-div-left, mod-eq-of-lt, div-eq-of-lt}
-use lib.Dec.{eqb}
+use lib.Dec.{eqb, ltb}
 use lib.ListN.{length, getD}
-use borrow.Author.Tests.{eqb-true, eqb-false, eq-eqb, ne-eqb, not-false}
+use borrow.Author.Tests.{ltb-false, le-ltb, eqb-true, eqb-false, eq-eqb, ne-eqb, not-false}
 use Rattle.theory.specs.Words.{pick, firstOf, when, keep, marksOk}
 use Rattle.theory.specs.Lists.{In, here, there, countFrom}
 use Rattle.theory.specs.Strips.{strip, window, placeOf}
@@ -16,11 +16,11 @@ use Rattle.theory.specs.Plans.{shades, marks, planFault, wordFault, laid
 use Rattle.theory.specs.Erasures.{unread, read, agrees, fitting, filling, smudgeFault, smudgedFault}
 use Rattle.theory.specs.Theorems.{Smudged}
 use Rattle.theory.proofs.Base.{test, and-l, and-r, and-in, or-right, same-test, nil-of}
-use Rattle.theory.proofs.Lists.{in-nil, no-members, keep-in, in-keep, keep-all, count-in, in-count}
+use Rattle.theory.proofs.Lists.{in-nil, in-some, no-members, keep-in, in-keep, keep-all, count-in, in-count}
 use Rattle.theory.proofs.Letters.{marks-cons, marks-head, marks-tail}
 use Rattle.theory.proofs.Reading.{letters-length}
 use Rattle.theory.proofs.Rings.{admitted-range, one-place, window-marks}
-use Rattle.theory.proofs.Faults.{first-then, word-fine}
+use Rattle.theory.proofs.Faults.{first-none, first-then, when-none, word-fine}
 use Rattle.theory.proofs.Laying.{plan-good, lookup-good}
 
 -- agreeing, letter by letter
@@ -55,6 +55,16 @@ agrees-same [] [] r h = refl
 agrees-same [] (b ∷ v) r h = absurd (false≢true h)
 agrees-same (a ∷ w) [] r h = absurd (false≢true h)
 agrees-same (a ∷ w) (b ∷ v) r h = ap₂ (λ x y. x ∷ y) (sym (same-letter a b (and-l _ _ h) (r a (here refl)))) (agrees-same w v (λ x i. r x (there i)) (and-r (unread a || eqb a b) _ h))
+
+-- the letters that were read are letters of a word that agrees
+agrees-marks : (k : ℕ) (w v : List ℕ) → agrees w v ≡ true → marksOk k v ≡ true → marksOk k (keep read w) ≡ true
+agrees-marks k [] v h m = refl
+agrees-marks k (a ∷ w) [] h m = absurd (false≢true h)
+agrees-marks k (a ∷ w) (b ∷ v) h m = next (test (unread a)) (agrees-marks k w v (and-r (unread a || eqb a b) _ h) (marks-tail k b v m))
+  where
+    next : (unread a ≡ true) ⊎ (unread a ≡ false) → marksOk k (keep read w) ≡ true → marksOk k (keep read (a ∷ w)) ≡ true
+    next (inl t) ih = rw t ih
+    next (inr t) ih = rw t (marks-cons k a (keep read w) (subst (λ x. x < k) (sym (same-letter a b (and-l _ _ h) t)) (marks-head k b v m)) ih)
 
 -- a filling
 pub filling-length : (k c : ℕ) (w : List ℕ) → length (filling k c w) ≡ length w
@@ -122,6 +132,14 @@ module _ (s w : List ℕ) (good : planFault s ≡ 0) where
       let (inside, reads) = one-place .found (shades s) (marks s) v (range .0) (range .1) long letters in
       in-fitting s w inside laid (ap (agrees w) reads ∙ agree)
 
+  -- where a place fits and not too much is erased, nothing is refused
+  pub fits-fine : {p : ℕ} → In p (fitting s w) → length (keep unread w) ≤ 2 → smudgedFault s w ≡ 0
+  fits-fine {p} i few =
+      let (_, _, agree) = fitting-in s w i in
+      let long : length w ≡ marks s = agrees-length w _ agree ∙ letters-length (shades s ^ marks s) (strip (shades s) (marks s)) p (marks s) in
+      let letters = agrees-marks (shades s) w _ agree (window-marks (shades s) (marks s) p (range .0) (range .1)) in
+      rw (good, eq-eqb (length w) (marks s) long, le-ltb 2 _ few, letters, ne-eqb (length (fitting s w)) 0 (in-some i))
+
   -- no word that agrees is laid
   abbrev None : Type 0
   None = (v : List ℕ) → length v ≡ marks s → marksOk (shades s) v ≡ true → agrees w v ≡ true → laidAt s (placeOf (shades s) (marks s) v) ≡ false
@@ -158,6 +176,16 @@ module _ (s w : List ℕ) (good : planFault s ≡ 0) where
         refused : (eqb (length (fitting s w)) 0 ≡ true) ⊎ (eqb (length (fitting s w)) 0 ≡ false) → smudgedFault s w ≡ 9 → eqb (length (fitting s w)) 0 ≡ true
         refused (inl t) e = t
         refused (inr t) e = let z : _≡_ {A = ℕ} 0 9 = sym (left ∙ rw t) ∙ e in absurd (omega arith)
+
+-- a window without fault of its own
+pub smudge-fine : (k n : ℕ) (w : List ℕ) → smudgeFault k n w ≡ 0 → (length w ≡ n) × (length (keep unread w) ≤ 2) × (marksOk k (keep read w) ≡ true)
+smudge-fine k n w e =
+    let (long, rest) = first-none (when (not (eqb (length w) n)) 2) _ e in
+    let (few, letters) = first-none (when (ltb 2 (length (keep unread w))) 11) _ rest in (
+      eqb-true (length w) n (not-false _ (when-none _ 2 (λ z. omega arith) long)),
+      ltb-false 2 _ (when-none _ 11 (λ z. omega arith) few),
+      not-false _ (when-none _ 3 (λ z. omega arith) letters),
+    )
 
 -- a window that was read in full
 module _ (s w : List ℕ) (full : keep unread w ≡ []) where

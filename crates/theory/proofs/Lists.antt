@@ -2,7 +2,7 @@
 use mathlib.Core.Path.{_≡_, refl, sym, _∙_, ap, ap₂, subst}
 use mathlib.Core.Bool.{Bool, true, false, false≢true}
 use mathlib.Core.List.{List, [], _∷_, _++_, append-assoc, append-nil}
-use mathlib.Core.Logic.{_⊎_, inl, inr}
+use mathlib.Core.Logic.{_⊎_, inl, inr, _≢_}
 use Prim.Native.Nat.{ℕ, zero, suc, _+_, _≤_, _<_}
 use native.Mathlib.Omega.{arith}
 use lib.ListN.{length, getD, take, drop, take-append-drop}
@@ -15,6 +15,10 @@ use Rattle.theory.proofs.Order.{Lt, below-lt, lt-below, lt-irrefl}
 module _ {A : Type 0} where
   pub in-nil : {x : A} → ¬ In x []
   in-nil i = elim i [ ]
+
+  pub in-some : {x : A} {xs : List A} → In x xs → length xs ≢ 0
+  in-some (here e) z = omega arith
+  in-some (there i) z = omega arith
 
   pub no-members : (xs : List A) → ((x : A) → ¬ In x xs) → xs ≡ []
   no-members [] h = refl
