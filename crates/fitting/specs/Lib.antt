@@ -1,0 +1,2 @@
+-- What the search asks for and what it answers.
+pub mod Fits
