@@ -6,7 +6,7 @@ use Rattle.demands.proofs.Refused.{refusals}
 use Rattle.demands.proofs.Words.{lyndon, rotation, root-told, count, ranked, unranked, word-back, rank-back}
 use Rattle.demands.proofs.Marks.{marked, placed, place-back, window-back, printed}
 use Rattle.demands.proofs.Walking.{started, not-started, stands, step, not-stepped, undone, walk, both-ways}
-use Rattle.demands.proofs.Laying.{laid, laid-only}
+use Rattle.demands.proofs.Laying.{laid, laid-only, smudged, smudged-only, smudged-plain}
 
 pub demands : Demands
 demands = record {
@@ -38,4 +38,7 @@ demands = record {
   both-ways = both-ways;
   laid = laid;
   laid-only = laid-only;
+  smudged = smudged;
+  smudged-only = smudged-only;
+  smudged-plain = λ s w t t′ r full e. smudged-plain s w t t′ r e full;
 }

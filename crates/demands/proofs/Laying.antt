@@ -1,74 +1,115 @@
--- The lookup down to the bytes: a window inside a section is answered so, and what is answered is so.
-use mathlib.Core.Path.{_≡_, _∙_, ap, ap₂}
-use mathlib.Core.List.{List, [], _++_}
-use Prim.Native.Nat.{ℕ, _+_, _-_, _^_, _≤_, _<_}
+-- The lookups down to the bytes: a window inside a section is answered so, and what is answered is so; the same of a smudged window.
+use mathlib.Core.Path.{_≡_, refl, sym, _∙_, ap, ap₂, subst}
+use mathlib.Core.Bool.{true, not}
+use mathlib.Core.List.{List, []}
+use Prim.Native.Nat.{ℕ, suc, _+_, _-_, _^_, _≤_, _<_}
 use native.Mathlib.Omega.{arith}
+use native.Mathlib.Decide.{ℕ-discrete}
 use lib.Dec.{eqb}
 use lib.ListN.{length, drop}
-use Rattle.theory.specs.Words.{pick}
-use Rattle.theory.specs.Strips.{window}
-use Rattle.theory.specs.Plans.{be, shades, marks, sectionCount, sections, nthS, planFault, lookupFault, layingOf, distanceOf}
+use borrow.Author.Tests.{eqb-false, ne-eqb, not-true}
+use Rattle.theory.specs.Words.{pick, keep}
+use Rattle.theory.specs.Strips.{window, placeOf}
+use Rattle.theory.specs.Plans.{be, shades, marks, sectionCount, sections, nthS, planFault, layingAt, laidAt, distanceAt, lookupFault, layingOf}
+use Rattle.theory.specs.Erasures.{unread, agrees, smudgedFault}
 use Rattle.theory.proofs.Rings.{one-place}
-use Rattle.theory.proofs.Faults.{word-fine}
+use Rattle.theory.proofs.Faults.{first-none, when-none, word-fine}
 use Rattle.theory.proofs.Laying as theory
-use Rattle.buffers.specs.Buffers.{putBe, over}
+use Rattle.theory.proofs.Erasures.{fitting-in, in-fitting, fits-fine, fault-full, fitting-full}
+use Rattle.buffers.specs.Buffers.{over}
 use Rattle.buffers.proofs.Bytes.{put-read}
-use Rattle.plans.proofs.Tests.{accepted-whole}
-use Rattle.lookups.specs.Says.{LookupSays}
 use Rattle.shape.proofs.Limits.{admitted-limits}
-use Rattle.demands.proofs.Trays.{into-fine, answered}
+use Rattle.calls.specs.Answers.{Into}
+use Rattle.calls.proofs.Answers.{into-given}
+use Rattle.plans.proofs.Tests.{accepted-whole}
+use Rattle.lookups.specs.Says.{answerAt, answerSize, LookupSays, SmudgedSays}
+use Rattle.demands.proofs.Trays.{into-fine, answered, answers, smudged-picked, smudged-refused, smudged-answers}
 
--- the answer's bytes
-abbrev bytes : ℕ → ℕ → List ℕ
-bytes i d = putBe 2 i ++ putBe 8 d
+-- the answer for a laid window, read back: few sections, and no place above 2^60
+module _ (s : List ℕ) (p : ℕ) (good : planFault s ≡ 0) (laid : laidAt s p ≡ true) (t : List ℕ) {t′ : List ℕ} (tray : t′ ≡ over (answerAt s p) t) where
+  section-back : be 0 2 t′ ≡ layingAt s p - 1
+  section-back = ap (be 0 2) tray ∙ put-read 2 (layingAt s p - 1) (omega (arith, theory.laid-at s p good laid .0, accepted-whole s good .few))
 
-number-back : (i d : ℕ) (t : List ℕ) → i < 2 ^ 16 → be 0 2 (over (bytes i d) t) ≡ i
-number-back i d t h = put-read 2 i h
+  distance-back : be 2 8 t′ ≡ distanceAt s p
+  distance-back =
+      let (_, is, ends) = theory.laid-at s p good laid in
+      ap (be 2 8) tray ∙ put-read 8 (distanceAt s p) (omega (arith, is, ends, admitted-limits (shades s) (marks s) (theory.plan-good s good .1) .range))
 
-distance-back : (i d : ℕ) (t : List ℕ) → d < 2 ^ 64 → be 2 8 (over (bytes i d) t) ≡ d
-distance-back i d t h = put-read 8 d h
-
--- an accepted plan: few sections, no long one
-record Bounds (s : List ℕ) (i : ℕ) : Type 0 where
-  few : i < 2 ^ 16
-  long : nthS (sections s) i .long < 2 ^ 64
-
-bounds : (s : List ℕ) (i : ℕ) → planFault s ≡ 0 → i < sectionCount s → Bounds s i
-bounds s i good h =
-    let (_, fit, straight) = theory.plan-good s good in
-    let inside : i < length (sections s) = omega (arith, h, theory.sections-length (sectionCount s) (drop 4 s)) in
-    let x = theory.straight-at (marks s) (shades s ^ marks s) 0 (sections s) i straight inside in
-    record { few = omega (arith, h, accepted-whole s good .few); long = omega (arith, x .ends, admitted-limits (shades s) (marks s) fit .range) }
+-- from a section's number
+laid-in : (s : List ℕ) (p : ℕ) {i : ℕ} → layingAt s p ≡ suc i → laidAt s p ≡ true
+laid-in s p e = ap not (ne-eqb (layingAt s p) 0 (λ z. omega arith))
 
 pub laid : (s : List ℕ) (i d : ℕ) (t t′ : List ℕ) (r : ℕ) → planFault s ≡ 0 → i < sectionCount s → d + marks s ≤ nthS (sections s) i .long
-    → 10 ≤ length t → LookupSays s (window (shades s) (marks s) (nthS (sections s) i .offset + d)) t t′ r
-    → (r ≡ 0) × (be 0 2 t′ ≡ i) × (be 2 8 t′ ≡ d) × (drop 10 t′ ≡ drop 10 t)
+    → answerSize ≤ length t → LookupSays s (window (shades s) (marks s) (nthS (sections s) i .offset + d)) t t′ r
+    → (r ≡ 0) × (be 0 2 t′ ≡ i) × (be 2 8 t′ ≡ d) × (drop answerSize t′ ≡ drop answerSize t)
 laid s i d t t′ r good h fits room e =
     let w = window (shades s) (marks s) (nthS (sections s) i .offset + d) in
+    let p = placeOf (shades s) (marks s) w in
     let (fine, laying, distance) = theory.laid s i d good h fits in
-    let b = bounds s i good h in
-    let found = into-fine (lookupFault s w) (bytes (layingOf s w - 1) (distanceOf s w)) t fine room e in
-    let number : layingOf s w - 1 ≡ i = omega (arith, laying) in
-    let tray : t′ ≡ over (bytes i d) t = found .1 ∙ ap₂ (λ x y. over (bytes x y) t) number distance in
-    (found .0, ap (be 0 2) tray ∙ number-back i d t (b .few), ap (be 2 8) tray ∙ distance-back i d t (omega (arith, fits, b .long)), ap (drop 10) tray)
+    let (number, tray) = into-fine (lookupFault s w) (answerAt s p) t fine room e in
+    let there = laid-in s p laying in
+    (number, section-back s p good there t tray ∙ omega (arith, laying), distance-back s p good there t tray ∙ distance, ap (drop answerSize) tray)
 
 pub laid-only : (s w t t′ : List ℕ) (r : ℕ) → LookupSays s w t t′ r → r ≡ 0
     → let i = be 0 2 t′ in
     let d = be 2 8 t′ in
     (i < sectionCount s) × (d + marks s ≤ nthS (sections s) i .long) × (window (shades s) (marks s) (nthS (sections s) i .offset + d) ≡ w)
 laid-only s w t t′ r e z =
-    let (fine, _, over-it) = answered (lookupFault s w) (pick (eqb (lookupFault s w) 0) (bytes (layingOf s w - 1) (distanceOf s w)) []) t e z in
-    let (good, word, _) = theory.lookup-good s w fine in
+    let p = placeOf (shades s) (marks s) w in
+    let (fine, _, over-it) = answered (lookupFault s w) (pick (eqb (lookupFault s w) 0) (answerAt s p) []) t e z in
+    let (good, word, looked) = theory.lookup-good s w fine in
+    let there : laidAt s p ≡ true = ap not (when-none (eqb (layingOf s w) 0) 9 (λ y. omega arith) looked) in
     let (inside, place, fits) = theory.laid-only s w fine in
-    let i = layingOf s w - 1 in
-    let b = bounds s i good inside in
-    let tray : t′ ≡ over (bytes i (distanceOf s w)) t = over-it ∙ ap (λ f. over (pick (eqb f 0) (bytes i (distanceOf s w)) []) t) fine in
-    let number : be 0 2 t′ ≡ i = ap (be 0 2) tray ∙ number-back i (distanceOf s w) t (b .few) in
-    let distance : be 2 8 t′ ≡ distanceOf s w = ap (be 2 8) tray ∙ distance-back i (distanceOf s w) t (omega (arith, fits, b .long)) in
+    let tray : t′ ≡ over (answerAt s p) t = over-it ∙ ap (λ f. over (pick (eqb f 0) (answerAt s p) []) t) fine in
+    let number = section-back s p good there t tray in
+    let distance = distance-back s p good there t tray in
     let lim = admitted-limits (shades s) (marks s) (theory.plan-good s good .1) in
-    let fitting = word-fine (shades s) (marks s) w word in
-    let reads = one-place .found (shades s) (marks s) w (lim .two) (lim .some) (fitting .0) (fitting .1) .1 in (
+    let (long, letters) = word-fine (shades s) (marks s) w word in
+    let reads = one-place .found (shades s) (marks s) w (lim .two) (lim .some) long letters .1 in (
       omega (arith, number, inside),
       omega (arith, distance, fits, ap (λ j. nthS (sections s) j .long) number),
       ap₂ (λ j d. window (shades s) (marks s) (nthS (sections s) j .offset + d)) number distance ∙ ap (window (shades s) (marks s)) place ∙ reads,
     )
+
+-- a smudged window: if a laid one agrees, one is answered
+pub smudged : (s w : List ℕ) (p : ℕ) (t t′ : List ℕ) (r : ℕ) → planFault s ≡ 0 → p < shades s ^ marks s → laidAt s p ≡ true
+    → agrees w (window (shades s) (marks s) p) ≡ true → length (keep unread w) ≤ 2 → answerSize ≤ length t → SmudgedSays s w t t′ r → r ≡ 0
+smudged s w p t t′ r good h laid agree few room e =
+    let x = smudged-picked s w t t′ r e (fits-fine s w good (in-fitting s w h laid agree) few) in
+    into-fine 0 (answerAt s (x .place)) t refl room (x .answer) .0
+
+module _ (s w t t′ : List ℕ) (r : ℕ) (e : SmudgedSays s w t t′ r) where
+  -- and what is answered agrees
+  pub smudged-only : r ≡ 0
+      → let i = be 0 2 t′ in
+      let p = nthS (sections s) i .offset + be 2 8 t′ in
+      (i < sectionCount s) × (layingAt s p ≡ suc i) × (agrees w (window (shades s) (marks s) p) ≡ true) × (drop answerSize t′ ≡ drop answerSize t)
+  smudged-only z =
+      let fine : smudgedFault s w ≡ 0 = elim (smudged-answers s w t t′ r e) [ answers b _ x ↦ answered (smudgedFault s w) (pick (eqb (smudgedFault s w) 0) b []) t x z .0 ] in
+      let x = smudged-picked s w t t′ r e fine in
+      let p = x .place in
+      let (_, there, agree) = fitting-in s w (x .fits) in
+      let good = first-none (planFault s) _ fine .0 in
+      let (_, _, tray) = answered 0 (answerAt s p) t (x .answer) z in
+      let number = section-back s p good there t tray in
+      let (few, at, _) = theory.laid-at s p good there in
+      let place : nthS (sections s) (be 0 2 t′) .offset + be 2 8 t′ ≡ p = ap₂ (λ j d. nthS (sections s) j .offset + d) number (distance-back s p good there t tray) ∙ at in
+      let some = eqb-false (layingAt s p) 0 (not-true _ there) in (
+        omega (arith, number, few),
+        ap (layingAt s) place ∙ omega (arith, number, some),
+        ap (λ q. agrees w (window (shades s) (marks s) q)) place ∙ agree,
+        ap (drop answerSize) tray,
+      )
+
+  -- read in full, it is answered as by the plain lookup
+  pub smudged-plain : keep unread w ≡ [] → LookupSays s w t t′ r
+  smudged-plain full =
+      let answer = answerAt s (placeOf (shades s) (marks s) w) in
+      let same = fault-full s w full in
+      elim (ℕ-discrete (smudgedFault s w) 0) [
+        | yes fine ↦
+            let x = smudged-picked s w t t′ r e fine in
+            let own = fitting-full s w full (first-none (planFault s) _ fine .0) (x .fits) in
+            into-given t (sym same ∙ fine) (ap (answerAt s) own) (x .answer)
+        | no some ↦ subst (λ f. Into f (pick (eqb f 0) answer []) t t′ r) same (smudged-refused s w t t′ r e some answer)
+      ]

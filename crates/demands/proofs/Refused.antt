@@ -1,28 +1,33 @@
 -- Each call's number is the first of `order` that applies: the record Refusals.
 use mathlib.Core.Path.{_≡_, sym, _∙_, ap}
-use mathlib.Core.Bool.{_&&_, _||_, not}
+use mathlib.Core.Bool.{true, false, _&&_, _||_, not, false≢true}
 use mathlib.Core.List.{List, _++_}
-use mathlib.Core.Logic.{_↔_, _≢_}
+use mathlib.Core.Logic.{inl, inr, _↔_, _≢_}
 use Prim.Native.Nat.{ℕ, _+_, _-_, _^_, _≤_, _<_}
 use native.Mathlib.Omega.{arith}
 use native.Mathlib.Decide.{ℕ-discrete}
 use lib.Dec.{eqb, ltb, leb}
 use lib.ListN.{length}
 use borrow.Author.Tests.{ne-eqb}
-use Rattle.theory.specs.Words.{firstOf, when, marksOk, howMany}
+use Rattle.theory.specs.Words.{firstOf, when, keep, marksOk, howMany}
 use Rattle.theory.specs.Strips.{admitted, window, cursorOk}
-use Rattle.theory.specs.Plans.{shades, marks, sectionCount, sections, nthS, planFault, wordFault, torn, straightFrom, layingOf, distanceOf, lookupFault}
+use Rattle.theory.specs.Plans.{shades, marks, sectionCount, sections, nthS, planFault, wordFault, torn, straightFrom, laidAt, layingOf, distanceOf, lookupFault}
+use Rattle.theory.specs.Erasures.{unread, read, agrees, fitting, smudgedFault}
+use Rattle.theory.proofs.Base.{test}
+use Rattle.theory.proofs.Lists.{in-some, no-members}
 use Rattle.theory.proofs.Rings.{one-place, admitted-range}
 use Rattle.theory.proofs.Faults.{word-fine}
 use Rattle.theory.proofs.Laying as theory
+use Rattle.theory.proofs.Erasures.{fitting-in, in-fitting}
 use Rattle.calls.specs.Order.{given}
 use Rattle.calls.specs.Refusals.{theWordFault, indexFault, placeFault}
 use Rattle.calls.proofs.Order.{given-none, given-first}
+use Rattle.lookups.specs.Says.{answerSize}
 use Rattle.cursors.specs.declared.Cursor as DC
 use Rattle.cursors.specs.Cursors.{cursorIn, tidy, cursorFault}
-use Rattle.demands.specs.Refused.{markRules, wordRules, placeRules, indexRules, cursorRules, planRules, layingRules, trayRules, Refusals}
-use Rattle.demands.proofs.Trays.{answer-number, rotation-answers, rank-answers, word-answers, mark-answers, place-answers, print-answers, look-up-answers}
-use Rattle.calls.proofs.Numbers.{strip-number, marks-number, word-number, place-number, cursor-number, plan-number, word-tray-number, place-tray-number, index-tray-number, laying-tray-number}
+use Rattle.demands.specs.Refused.{markRules, wordRules, placeRules, indexRules, cursorRules, planRules, layingRules, smudgedRules, trayRules, Refusals}
+use Rattle.demands.proofs.Trays.{answer-number, rotation-answers, rank-answers, word-answers, mark-answers, place-answers, print-answers, look-up-answers, smudged-answers}
+use Rattle.calls.proofs.Numbers.{strip-number, marks-number, word-number, place-number, cursor-number, plan-number, word-tray-number, place-tray-number, index-tray-number, laying-tray-number, smudged-tray-number}
 
 -- the faults of each kind of argument, alone and with a tray of m bytes
 word-given : (k n : ℕ) (w : List ℕ) → theWordFault k n w ≡ given (wordRules k n w)
@@ -53,6 +58,21 @@ laying-tray : (s w t : List ℕ) (m : ℕ) → firstOf (lookupFault s w) (when (
 laying-tray s w t m =
     laying-tray-number (torn s) (not (admitted (shades s) (marks s))) (not (straightFrom (marks s) (shades s ^ marks s) 0 (sections s)))
     (not (eqb (length w) (marks s))) (not (marksOk (shades s) w)) (eqb (layingOf s w) 0) (ltb (length t) m)
+
+smudged-tray : (s w t : List ℕ) (m : ℕ) → firstOf (smudgedFault s w) (when (ltb (length t) m) 6) ≡ given (smudgedRules s w ++ trayRules t m)
+smudged-tray s w t m =
+    smudged-tray-number (torn s) (not (admitted (shades s) (marks s))) (not (straightFrom (marks s) (shades s ^ marks s) 0 (sections s)))
+    (not (eqb (length w) (marks s))) (ltb 2 (length (keep unread w))) (not (marksOk (shades s) (keep read w))) (eqb (length (fitting s w)) 0) (ltb (length t) m)
+
+-- a smudged window with which no laid one agrees
+none-agrees : (s w : List ℕ) → (length (fitting s w) ≡ 0) ↔ ((p : ℕ) → p < shades s ^ marks s → laidAt s p ≡ true → agrees w (window (shades s) (marks s) p) ≡ false)
+none-agrees s w = (into, out)
+  where
+    into : length (fitting s w) ≡ 0 → (p : ℕ) → p < shades s ^ marks s → laidAt s p ≡ true → agrees w (window (shades s) (marks s) p) ≡ false
+    into z p h laid = elim (test (agrees w (window (shades s) (marks s) p))) [ inl t ↦ absurd (in-some (in-fitting s w h laid t) z) | inr t ↦ t ]
+
+    out : ((p : ℕ) → p < shades s ^ marks s → laidAt s p ≡ true → agrees w (window (shades s) (marks s) p) ≡ false) → length (fitting s w) ≡ 0
+    out none = ap length (no-members (fitting s w) (λ p i. let (h, laid, agree) = fitting-in s w i in false≢true (sym (none p h laid) ∙ agree)))
 
 -- a window that is read nowhere inside a section
 not-laid : (s w : List ℕ) → given (planRules s) ≡ 0 → given (markRules (shades s) (marks s) w) ≡ 0
@@ -98,10 +118,12 @@ refusals = record {
   place-of = λ k n w t t′ r e. answer-number (place-answers k n w t t′ r e) ∙ word-tray k n w t 8;
   print-marks = λ k n p c t t′ r e. answer-number (print-answers k n p c t t′ r e) ∙ place-tray k n p t c;
   check-plan = λ s r e. e ∙ plan-given s;
-  look-up = λ s w t t′ r e. answer-number (look-up-answers s w t t′ r e) ∙ laying-tray s w t 10;
+  look-up = λ s w t t′ r e. answer-number (look-up-answers s w t t′ r e) ∙ laying-tray s w t answerSize;
+  look-up-smudged = λ s w t t′ r e. answer-number (smudged-answers s w t t′ r e) ∙ smudged-tray s w t answerSize;
   start-cursor = λ k n p r e. e .0 ∙ place-given k n p;
   cursor-place = λ c r e. e .0 ∙ cursor-given c;
   step = λ c r e. e .0 ∙ cursor-given c;
   step-back = λ c r e. e .0 ∙ cursor-given c;
   not-laid = not-laid;
+  none-agrees = none-agrees;
 }

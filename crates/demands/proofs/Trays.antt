@@ -1,17 +1,19 @@
 -- What a call leaves in a tray: its answer over the start, or the tray as it was; numbers read back from it; the record Trays.
 use mathlib.Core.Path.{_≡_, refl, sym, _∙_, ap, ap₂, subst}
 use mathlib.Core.Bool.{true, false}
-use mathlib.Core.List.{List, [], _++_}
+use mathlib.Core.List.{List, []}
 use mathlib.Core.Logic.{_≢_, inl, inr}
 use Prim.Native.Nat.{ℕ, zero, suc, _-_, _^_, _≤_, _<_}
 use native.Mathlib.Omega.{arith}
+use native.Mathlib.Decide.{ℕ-discrete}
 use lib.Dec.{eqb, ltb}
 use lib.ListN.{length, drop}
 use lib.Seq.{drop-append-seam}
 use borrow.Author.Tests.{le-ltb, ltb-false, ne-eqb}
-use Rattle.theory.specs.Words.{pick, firstOf, when, smallest, wordOf, rank}
+use Rattle.theory.specs.Words.{pick, pickT, firstOf, when, smallest, wordOf, rank}
 use Rattle.theory.specs.Strips.{admitted, stripFault, markAt, marksFrom, placeOf, strip}
-use Rattle.theory.specs.Plans.{be, lookupFault, layingOf, distanceOf}
+use Rattle.theory.specs.Plans.{be, shades, marks, lookupFault}
+use Rattle.theory.specs.Erasures.{smudgedFault}
 use Rattle.theory.proofs.Base.{test}
 use Rattle.theory.proofs.Necklaces.{smallest-length}
 use Rattle.theory.proofs.Reading.{letters-length}
@@ -22,10 +24,11 @@ use Rattle.buffers.proofs.Bytes.{put-read, over-length}
 use Rattle.calls.specs.declared.Value as DV
 use Rattle.calls.specs.Answers.{Into, Number, ValueIs}
 use Rattle.calls.specs.Refusals.{theWordFault, indexFault, placeFault}
+use Rattle.calls.proofs.Answers.{into-given}
 use Rattle.words.proofs.Indexes.{index-range, index-long}
 use Rattle.words.specs.Says.{RotationSays, RankSays, WordSays}
 use Rattle.marks.specs.Says.{MarkSays, PlaceSays, PrintSays}
-use Rattle.lookups.specs.Says.{LookupSays}
+use Rattle.lookups.specs.Says.{answerAt, answerSize, LookupSays, Picked, SmudgedSays}
 use Rattle.demands.specs.Trays.{Keeps, Trays}
 
 -- no fault, so the answer over the start of the tray
@@ -132,8 +135,21 @@ print-answers k n p c t t′ r e =
     let long = letters-length (k ^ n) (strip k n) p c in
     answers (marksFrom k n p c) (λ _. long) (print-into (placeFault k n p) c (marksFrom k n p c) t t′ r long e)
 
-pub look-up-answers : (s w t t′ : List ℕ) (r : ℕ) → LookupSays s w t t′ r → Answers 10 (lookupFault s w) t t′ r
-look-up-answers s w t t′ r e = answers (putBe 2 (layingOf s w - 1) ++ putBe 8 (distanceOf s w)) (λ _. refl) e
+pub look-up-answers : (s w t t′ : List ℕ) (r : ℕ) → LookupSays s w t t′ r → Answers answerSize (lookupFault s w) t t′ r
+look-up-answers s w t t′ r e = answers (answerAt s (placeOf (shades s) (marks s) w)) (λ _. refl) e
+
+-- a smudged window: a place was picked, or the refusal is one of any answer
+pub smudged-picked : (s w t t′ : List ℕ) (r : ℕ) → SmudgedSays s w t t′ r → smudgedFault s w ≡ 0 → Picked s w t t′ r
+smudged-picked s w t t′ r e fine = subst (λ f. pickT (eqb f 0) (Picked s w t t′ r) (Into f [] t t′ r)) fine e
+
+pub smudged-refused : (s w t t′ : List ℕ) (r : ℕ) → SmudgedSays s w t t′ r → smudgedFault s w ≢ 0 → (b : List ℕ) → Into (smudgedFault s w) (pick (eqb (smudgedFault s w) 0) b []) t t′ r
+smudged-refused s w t t′ r e some b = let other = ne-eqb (smudgedFault s w) 0 some in rw other (rw other at e)
+
+pub smudged-answers : (s w t t′ : List ℕ) (r : ℕ) → SmudgedSays s w t t′ r → Answers answerSize (smudgedFault s w) t t′ r
+smudged-answers s w t t′ r e = elim (ℕ-discrete (smudgedFault s w) 0) [
+  | yes fine ↦ let x = smudged-picked s w t t′ r e fine in answers (answerAt s (x .place)) (λ _. refl) (into-given t fine refl (x .answer))
+  | no some ↦ answers [] (λ z. absurd (some z)) (smudged-refused s w t t′ r e some [])
+]
 
 pub trays : Trays
 trays = record {
@@ -144,4 +160,5 @@ trays = record {
   place-of = λ k n w t t′ r e. keeps (place-answers k n w t t′ r e);
   print-marks = λ k n p c t t′ r e. keeps (print-answers k n p c t t′ r e);
   look-up = λ s w t t′ r e. keeps (look-up-answers s w t t′ r e);
+  look-up-smudged = λ s w t t′ r e. keeps (smudged-answers s w t t′ r e);
 }

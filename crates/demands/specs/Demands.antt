@@ -2,21 +2,22 @@
 -- A call's promise says what it gives for every argument (specs/Says of words, marks and lookups; Cursors of cursors): here it stands as a premise.
 use mathlib.Core.Path.{_≡_}
 use mathlib.Core.Bool.{Bool, true, not}
-use mathlib.Core.List.{List}
+use mathlib.Core.List.{List, []}
 use mathlib.Core.Logic.{_↔_, _≢_}
-use Prim.Native.Nat.{ℕ, _+_, _^_, _≤_, _<_}
+use Prim.Native.Nat.{ℕ, suc, _+_, _^_, _≤_, _<_}
 use lib.ListN.{length, getD, take, drop, replicate}
-use Rattle.theory.specs.Words.{below, upTo, turned, leastTurn, repeated, powerTo, marksOk, isLyndon, howMany, rank, wordOf}
+use Rattle.theory.specs.Words.{below, upTo, turned, leastTurn, repeated, powerTo, keep, marksOk, isLyndon, howMany, rank, wordOf}
 use Rattle.theory.specs.Rings.{modulo, pathEnd, pathLetters}
 use Rattle.theory.specs.Strips.{admitted, strip, markAt, marksFrom, window, placeIn}
-use Rattle.theory.specs.Plans.{be, shades, marks, sectionCount, sections, nthS, planFault}
+use Rattle.theory.specs.Plans.{be, shades, marks, sectionCount, sections, nthS, planFault, layingAt, laidAt}
+use Rattle.theory.specs.Erasures.{unread, agrees}
 use Rattle.theory.specs.Theorems.{Theorems}
 use Rattle.buffers.specs.Buffers.{putBe, over}
 use Rattle.calls.specs.declared.Value as DV
 use Rattle.calls.specs.Answers.{ValueIs}
 use Rattle.words.specs.Says.{LyndonSays, RotationSays, RootSays, ManySays, RankSays, WordSays}
 use Rattle.marks.specs.Says.{MarkSays, PlaceSays, PrintSays}
-use Rattle.lookups.specs.Says.{LookupSays}
+use Rattle.lookups.specs.Says.{answerSize, LookupSays, SmudgedSays}
 use Rattle.cursors.specs.declared.Cursor as DC
 use Rattle.cursors.specs.declared.Started as DS
 use Rattle.cursors.specs.declared.Stepped as DT
@@ -95,10 +96,21 @@ pub record Demands : Type 0 where
       × (fields (λ q. q .passed) qs ≡ pathPassed k n ways p) × (v .number ≡ 0) × (v .value ≡ pathEnd (k ^ n) ways p)
   -- Plans: look_up on the window at a distance in a section of an accepted plan writes that section and that distance, and no byte after them
   pub laid : (s : List ℕ) (i d : ℕ) (t t′ : List ℕ) (r : ℕ) → planFault s ≡ 0 → i < sectionCount s → d + marks s ≤ nthS (sections s) i .long
-      → 10 ≤ length t → LookupSays s (window (shades s) (marks s) (nthS (sections s) i .offset + d)) t t′ r
-      → (r ≡ 0) × (be 0 2 t′ ≡ i) × (be 2 8 t′ ≡ d) × (drop 10 t′ ≡ drop 10 t)
+      → answerSize ≤ length t → LookupSays s (window (shades s) (marks s) (nthS (sections s) i .offset + d)) t t′ r
+      → (r ≡ 0) × (be 0 2 t′ ≡ i) × (be 2 8 t′ ≡ d) × (drop answerSize t′ ≡ drop answerSize t)
   -- what look_up answers is true: the window is read at that distance in that section, wholly inside it
   pub laid-only : (s w t t′ : List ℕ) (r : ℕ) → LookupSays s w t t′ r → r ≡ 0
       → let i = be 0 2 t′ in
       let d = be 2 8 t′ in
       (i < sectionCount s) × (d + marks s ≤ nthS (sections s) i .long) × (window (shades s) (marks s) (nthS (sections s) i .offset + d) ≡ w)
+  -- Smudged windows: look_up_smudged answers if some laid window agrees with what was read, and at most two marks were not. Which one it picks is free, so
+  -- the third demand's last sentence, section and distance of the window that was read, holds here for windows read in full: `smudged-plain`, with `laid`
+  pub smudged : (s w : List ℕ) (p : ℕ) (t t′ : List ℕ) (r : ℕ) → planFault s ≡ 0 → p < shades s ^ marks s → laidAt s p ≡ true
+      → agrees w (window (shades s) (marks s) p) ≡ true → length (keep unread w) ≤ 2 → answerSize ≤ length t → SmudgedSays s w t t′ r → r ≡ 0
+  -- what it answers is true: the window at that distance in that section is laid there, and agrees
+  pub smudged-only : (s w t t′ : List ℕ) (r : ℕ) → SmudgedSays s w t t′ r → r ≡ 0
+      → let i = be 0 2 t′ in
+      let p = nthS (sections s) i .offset + be 2 8 t′ in
+      (i < sectionCount s) × (layingAt s p ≡ suc i) × (agrees w (window (shades s) (marks s) p) ≡ true) × (drop answerSize t′ ≡ drop answerSize t)
+  -- of a window that was read in full it answers what look_up does, byte for byte
+  pub smudged-plain : (s w t t′ : List ℕ) (r : ℕ) → keep unread w ≡ [] → SmudgedSays s w t t′ r → LookupSays s w t t′ r

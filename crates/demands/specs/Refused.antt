@@ -7,15 +7,16 @@ use mathlib.Core.Logic.{_↔_, _≢_}
 use Prim.Native.Nat.{ℕ, _+_, _^_, _≤_, _<_}
 use lib.Dec.{eqb, ltb, leb}
 use lib.ListN.{length}
-use Rattle.theory.specs.Words.{howMany, marksOk}
+use Rattle.theory.specs.Words.{howMany, keep, marksOk}
 use Rattle.theory.specs.Lists.{In}
 use Rattle.theory.specs.Strips.{admitted, window, cursorOk}
-use Rattle.theory.specs.Plans.{shades, marks, sectionCount, sections, nthS, torn, straightFrom, layingOf}
+use Rattle.theory.specs.Plans.{shades, marks, sectionCount, sections, nthS, torn, straightFrom, laidAt, layingOf}
+use Rattle.theory.specs.Erasures.{unread, read, agrees, fitting}
 use Rattle.calls.specs.declared.Value as DV
 use Rattle.calls.specs.Order.{order, Rule, rule, appliesIn, given}
 use Rattle.words.specs.Says.{LyndonSays, RotationSays, RootSays, ManySays, RankSays, WordSays}
 use Rattle.marks.specs.Says.{MarkSays, PlaceSays, PrintSays}
-use Rattle.lookups.specs.Says.{PlanSays, LookupSays}
+use Rattle.lookups.specs.Says.{answerSize, PlanSays, LookupSays, SmudgedSays}
 use Rattle.cursors.specs.declared.Cursor as DC
 use Rattle.cursors.specs.declared.Started as DS
 use Rattle.cursors.specs.declared.Stepped as DT
@@ -47,6 +48,13 @@ planRules s = rule 7 (torn s) ∷ rule 1 (not (admitted (shades s) (marks s))) �
 abbrev pub layingRules : List ℕ → List ℕ → List Rule
 layingRules s w = planRules s ++ (markRules (shades s) (marks s) w ++ (rule 9 (eqb (layingOf s w) 0) ∷ []))
 
+-- a smudged window: too smudged comes between wrong window and bad mark, and only a mark that was read can be bad; not laid, if no laid window agrees
+abbrev pub smudgeRules : ℕ → ℕ → List ℕ → List Rule
+smudgeRules k n w = rule 2 (not (eqb (length w) n)) ∷ rule 11 (ltb 2 (length (keep unread w))) ∷ rule 3 (not (marksOk k (keep read w))) ∷ []
+
+abbrev pub smudgedRules : List ℕ → List ℕ → List Rule
+smudgedRules s w = planRules s ++ (smudgeRules (shades s) (marks s) w ++ (rule 9 (eqb (length (fitting s w)) 0) ∷ []))
+
 -- tray too small for b bytes
 abbrev pub trayRules : List ℕ → ℕ → List Rule
 trayRules t b = rule 6 (ltb (length t) b) ∷ []
@@ -67,7 +75,8 @@ pub record Refusals : Type 0 where
   pub place-of : (k n : ℕ) (w t t′ : List ℕ) (r : ℕ) → PlaceSays k n w t t′ r → r ≡ given (wordRules k n w ++ trayRules t 8)
   pub print-marks : (k n p c : ℕ) (t t′ : List ℕ) (r : ℕ) → PrintSays k n p c t t′ r → r ≡ given (placeRules k n p ++ trayRules t c)
   pub check-plan : (s : List ℕ) (r : ℕ) → PlanSays s r → r ≡ given (planRules s)
-  pub look-up : (s w t t′ : List ℕ) (r : ℕ) → LookupSays s w t t′ r → r ≡ given (layingRules s w ++ trayRules t 10)
+  pub look-up : (s w t t′ : List ℕ) (r : ℕ) → LookupSays s w t t′ r → r ≡ given (layingRules s w ++ trayRules t answerSize)
+  pub look-up-smudged : (s w t t′ : List ℕ) (r : ℕ) → SmudgedSays s w t t′ r → r ≡ given (smudgedRules s w ++ trayRules t answerSize)
   pub start-cursor : (k n p : ℕ) (r : DS.Started) → StartSays k n p r → r .number ≡ given (placeRules k n p)
   pub cursor-place : (c : DC.Cursor) (r : DV.Value) → WhereSays c r → r .number ≡ given (cursorRules c)
   pub step : (c : DC.Cursor) (r : DT.Stepped) → StepSays c r → r .number ≡ given (cursorRules c)
@@ -76,3 +85,6 @@ pub record Refusals : Type 0 where
   pub not-laid : (s w : List ℕ) → given (planRules s) ≡ 0 → given (markRules (shades s) (marks s) w) ≡ 0
       → (layingOf s w ≡ 0)
       ↔ ((i d : ℕ) → i < sectionCount s → d + marks s ≤ nthS (sections s) i .long → window (shades s) (marks s) (nthS (sections s) i .offset + d) ≢ w)
+  -- and for a smudged window just when no laid window agrees with it
+  pub none-agrees : (s w : List ℕ)
+      → (length (fitting s w) ≡ 0) ↔ ((p : ℕ) → p < shades s ^ marks s → laidAt s p ≡ true → agrees w (window (shades s) (marks s) p) ≡ false)

@@ -6,7 +6,7 @@ use Prim.Native.Nat.{ℕ}
 use lib.ListN.{length, drop}
 use Rattle.words.specs.Says.{RotationSays, RankSays, WordSays}
 use Rattle.marks.specs.Says.{MarkSays, PlaceSays, PrintSays}
-use Rattle.lookups.specs.Says.{LookupSays}
+use Rattle.lookups.specs.Says.{answerSize, LookupSays, SmudgedSays}
 
 -- with an answer of b bytes: a refusal leaves the tray as it was, its length never changes, and the bytes after the first b stay
 abbrev pub Keeps : ℕ → List ℕ → List ℕ → ℕ → Type 0
@@ -19,4 +19,5 @@ pub record Trays : Type 0 where
   pub mark-at : (k n p : ℕ) (t t′ : List ℕ) (r : ℕ) → MarkSays k n p t t′ r → Keeps 8 t t′ r
   pub place-of : (k n : ℕ) (w t t′ : List ℕ) (r : ℕ) → PlaceSays k n w t t′ r → Keeps 8 t t′ r
   pub print-marks : (k n p c : ℕ) (t t′ : List ℕ) (r : ℕ) → PrintSays k n p c t t′ r → Keeps c t t′ r
-  pub look-up : (s w t t′ : List ℕ) (r : ℕ) → LookupSays s w t t′ r → Keeps 10 t t′ r
+  pub look-up : (s w t t′ : List ℕ) (r : ℕ) → LookupSays s w t t′ r → Keeps answerSize t t′ r
+  pub look-up-smudged : (s w t t′ : List ℕ) (r : ℕ) → SmudgedSays s w t t′ r → Keeps answerSize t t′ r

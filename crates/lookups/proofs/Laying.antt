@@ -1,31 +1,32 @@
--- The lookup in a plan: its faults in their order, and what an accepted plan makes of the word, the place and the section.
+-- The lookup in a plan: its faults in their order, what an accepted plan makes of the word, the place and the section, and the answer's bytes.
 use mathlib.Core.Path.{_≡_, sym, _∙_, ap, ap₂, subst}
-use mathlib.Core.List.{List}
-use Prim.Native.Nat.{ℕ, _-_, _^_, _≤_, _<_}
+use mathlib.Core.Bool.{true, not}
+use mathlib.Core.List.{List, _++_}
+use Prim.Native.Nat.{ℕ, _-_, _≤_, _<_}
 use native.Mathlib.Omega.{arith}
 use lib.Dec.{eqb}
 use borrow.Author.Tests.{ne-eqb}
 use Rattle.theory.specs.Words.{firstOf, when}
 use Rattle.theory.specs.Strips.{placeOf, stripFault}
-use Rattle.theory.specs.Plans.{shades, marks, sections, sectionCount, nthS, planFault, wordFault, layingFrom, layingOf, distanceOf, lookupFault}
+use Rattle.theory.specs.Plans.{shades, marks, sections, sectionCount, nthS, planFault, wordFault, layingAt, laidAt, layingOf, lookupFault}
 use Rattle.theory.proofs.Faults.{first-some, first-none, word-fine}
-use Rattle.theory.proofs.Laying.{laid-only}
-use Rattle.theory.proofs.Rings.{one-place}
+use Rattle.theory.proofs.Laying.{laid-at}
+use Rattle.buffers.specs.Buffers.{putBe}
 use Rattle.shape.specs.declared.Strip as DS
 use Rattle.shape.specs.Shapes.{WordOn}
-use Rattle.shape.proofs.Limits.{limits}
 use Rattle.calls.specs.declared.Checked.{Checked}
 use Rattle.calls.specs.declared.Checked.the-variants.{Strip, Refused}
 use Rattle.calls.specs.Refusals.{theWordFault}
 use Rattle.calls.specs.Checks.{Checks}
 use Rattle.calls.proofs.Checks.{refused-by, passed}
 use Rattle.plans.specs.Opened.{Opens, Accepted}
+use Rattle.lookups.specs.Says.{answerAt, LaidIn}
 
--- a refused plan
-pub plan-fault : (s w : List ℕ) {c : Checked} {f : ℕ} → Opens s c → c ≡ Refused f → (lookupFault s w ≡ f) × ¬ (f ≡ 0)
-plan-fault s w e g =
-    let (is, some) = refused-by (planFault s) (shades s) (marks s) e g in
-    (first-some (planFault s) _ (λ z. some (sym is ∙ z)) ∙ is, some)
+-- a refused plan, whatever is refused after it
+pub plan-fault : (s : List ℕ) (g : ℕ) {c : Checked} {f : ℕ} → Opens s c → c ≡ Refused f → (firstOf (planFault s) g ≡ f) × ¬ (f ≡ 0)
+plan-fault s g e h =
+    let (is, some) = refused-by (planFault s) (shades s) (marks s) e h in
+    (first-some (planFault s) g (λ z. some (sym is ∙ z)) ∙ is, some)
 
 -- on an accepted plan, with the strip x that it is laid on; c is the check of the word there
 module _ {s : List ℕ} {x : DS.Strip} (a : Accepted s x) (w : List ℕ) {c : Checked} (e : Checks (theWordFault (x .k) (x .n) w) (x .k) (x .n) c) where
@@ -47,9 +48,6 @@ module _ {s : List ℕ} {x : DS.Strip} (a : Accepted s x) (w : List ℕ) {c : Ch
   pub word-on-strip : {y : DS.Strip} → c ≡ Strip y → WordOn x w
   word-on-strip g = let word = word-fine (x .k) (x .n) w (first-none (stripFault (x .k) (x .n)) _ (passed (theWordFault (x .k) (x .n) w) (x .k) (x .n) e g .0) .1) in record { shaped = a .shaped; long = word .0; marks = word .1 }
 
-  pub place-small : {p : ℕ} → WordOn x w → p ≡ placeOf (x .k) (x .n) w → p < 2 ^ 60
-  place-small on e = let l = limits (on .shaped) in omega (arith, e, l .range, one-place .found (x .k) (x .n) w (l .two) (l .some) (on .long) (on .marks) .0)
-
   pub word-passed : {y : DS.Strip} → c ≡ Strip y → lookupFault s w ≡ when (eqb (layingOf s w) 0) 9
   word-passed g = rest ∙ ap (λ f. firstOf f (when (eqb (layingOf s w) 0) 9)) (sym word-is ∙ passed (theWordFault (x .k) (x .n) w) (x .k) (x .n) e g .0)
 
@@ -58,14 +56,14 @@ pub record Looked (s w : List ℕ) (x : DS.Strip) (p l : ℕ) : Type 0 where
   pub plan : Accepted s x
   pub fault-left : lookupFault s w ≡ when (eqb (layingOf s w) 0) 9
   pub at : p ≡ placeOf (x .k) (x .n) w
-  pub found : l ≡ layingFrom 0 p (marks s) (sections s)
+  pub found : l ≡ layingAt s p
 
 module _ {s w : List ℕ} {x : DS.Strip} {p l : ℕ} (looked : Looked s w x p l) where
-  place-is : p ≡ placeOf (shades s) (marks s) w
+  pub place-is : p ≡ placeOf (shades s) (marks s) w
   place-is = looked .at ∙ ap₂ (λ k n. placeOf k n w) (looked .plan .letters) (looked .plan .marked)
 
   laying-is : l ≡ layingOf s w
-  laying-is = looked .found ∙ ap (λ q. layingFrom 0 q (marks s) (sections s)) place-is
+  laying-is = looked .found ∙ ap (layingAt s) place-is
 
   pub nowhere : l ≡ 0 → lookupFault s w ≡ 9
   nowhere z = looked .fault-left ∙ ap (λ y. when (eqb y 0) 9) (sym laying-is ∙ z)
@@ -74,18 +72,23 @@ module _ {s w : List ℕ} {x : DS.Strip} {p l : ℕ} (looked : Looked s w x p l)
     pub laid-fine : lookupFault s w ≡ 0
     laid-fine = looked .fault-left ∙ ap (λ t. when t 9) (ne-eqb (layingOf s w) 0 (λ z. some (laying-is ∙ z)))
 
-    pub section-inside : l - 1 < sectionCount s
-    section-inside = subst (λ y. y - 1 < sectionCount s) (sym laying-is) (laid-only s w laid-fine .0)
+    pub laid-there : LaidIn s p l
+    laid-there = record { faultless = looked .plan .faultless; section = looked .found; some = omega arith }
 
-    pub section-number : l - 1 ≡ layingOf s w - 1
-    section-number = ap (λ y. y - 1) laying-is
+-- a window that is laid: its section, and the answer's bytes by the section's offset o
+module _ {s : List ℕ} {p l : ℕ} (h : LaidIn s p l) where
+  laid : laidAt s p ≡ true
+  laid = ap not (ne-eqb (layingAt s p) 0 (λ z. omega (arith, h .section, h .some)))
 
-    module _ {o : ℕ} (offset : o ≡ nthS (sections s) (l - 1) .offset) where
-      offset-is : o ≡ nthS (sections s) (layingOf s w - 1) .offset
-      offset-is = offset ∙ ap (λ i. nthS (sections s) i .offset) section-number
+  pub section-inside : l - 1 < sectionCount s
+  section-inside = subst (λ i. i - 1 < sectionCount s) (sym (h .section)) (laid-at s p (h .faultless) laid .0)
 
-      pub starts-before : o ≤ p
-      starts-before = omega (arith, offset-is, place-is, laid-only s w laid-fine .1)
+  module _ {o : ℕ} (offset : o ≡ nthS (sections s) (l - 1) .offset) where
+    offset-is : o ≡ nthS (sections s) (layingAt s p - 1) .offset
+    offset-is = offset ∙ ap (λ i. nthS (sections s) (i - 1) .offset) (h .section)
 
-      pub distance-is : p - o ≡ distanceOf s w
-      distance-is = ap₂ _-_ place-is offset-is
+    pub starts-before : o ≤ p
+    starts-before = omega (arith, offset-is, laid-at s p (h .faultless) laid .1)
+
+    pub bytes-are : putBe 2 (l - 1) ++ putBe 8 (p - o) ≡ answerAt s p
+    bytes-are = ap₂ (λ i d. putBe 2 (i - 1) ++ putBe 8 d) (h .section) (ap (λ i. p - i) offset-is)

@@ -1,10 +1,13 @@
 -- What the calls on plans promise. A tray holds t at the call and t′ at the return.
 use mathlib.Core.Path.{_≡_}
 use mathlib.Core.List.{List, [], _++_}
-use Prim.Native.Nat.{ℕ, _-_}
+use Prim.Native.Nat.{ℕ, _-_, _≤_}
 use lib.Dec.{eqb}
-use Rattle.theory.specs.Words.{pick}
-use Rattle.theory.specs.Plans.{planFault, lookupFault, layingOf, distanceOf}
+use Rattle.theory.specs.Words.{pick, pickT}
+use Rattle.theory.specs.Lists.{In}
+use Rattle.theory.specs.Strips.{placeOf}
+use Rattle.theory.specs.Plans.{shades, marks, planFault, layingAt, distanceAt, lookupFault}
+use Rattle.theory.specs.Erasures.{fitting, smudgedFault}
 use Rattle.buffers.specs.Buffers.{putBe}
 use Rattle.calls.specs.Answers.{Into}
 
@@ -12,8 +15,32 @@ use Rattle.calls.specs.Answers.{Into}
 abbrev pub PlanSays : List ℕ → ℕ → Type 0
 PlanSays s r = r ≡ planFault s
 
--- the section's number in 2 bytes and the distance in 8
+-- the answer for the laid window at a place: the section's number in 2 bytes and the distance in 8
+abbrev pub answerAt : List ℕ → ℕ → List ℕ
+answerAt s p = putBe 2 (layingAt s p - 1) ++ putBe 8 (distanceAt s p)
+
+abbrev pub answerSize : ℕ
+answerSize = 10
+
+-- a window that was read in full: the answer for its place
 abbrev pub LookupSays : List ℕ → List ℕ → List ℕ → List ℕ → ℕ → Type 0
 LookupSays s w t t′ r =
     let f = lookupFault s w in
-    Into f (pick (eqb f 0) (putBe 2 (layingOf s w - 1) ++ putBe 8 (distanceOf s w)) []) t t′ r
+    Into f (pick (eqb f 0) (answerAt s (placeOf (shades s) (marks s) w)) []) t t′ r
+
+-- a smudged window: the answer for the place of a laid window that agrees. Which one is free: nobody may rely on the `place` that is picked, but it fits
+pub record Picked (s w t t′ : List ℕ) (r : ℕ) : Type 0 where
+  pub place : ℕ
+  pub fits : In place (fitting s w)
+  pub answer : Into 0 (answerAt s place) t t′ r
+
+abbrev pub SmudgedSays : List ℕ → List ℕ → List ℕ → List ℕ → ℕ → Type 0
+SmudgedSays s w t t′ r =
+    let f = smudgedFault s w in
+    pickT (eqb f 0) (Picked s w t t′ r) (Into f [] t t′ r)
+
+-- what writing an answer asks for: the window at p is laid in section l − 1 of an accepted plan
+pub record LaidIn (s : List ℕ) (p l : ℕ) : Type 0 where
+  pub faultless : planFault s ≡ 0
+  pub section : l ≡ layingAt s p
+  pub some : 1 ≤ l

@@ -1,14 +1,11 @@
-// Calls on a laying plan: is it accepted, and in which section of it is a window read? A faulty argument gets its number from the table of
-// refusals, and every tray is then as it was.
-ghost use mathlib.Core.Path.{_≡_};
-ghost use mathlib.Core.List.{_++_};
-ghost use Prim.Native.Nat.{_≤_};
-ghost use lib.ListN.{length};
-ghost use Rattle.buffers.specs.Buffers.{putBe, over};
+// Calls on a laying plan: is it accepted, and in which section of it is a window read, also one with marks that could not be read? A faulty argument
+// gets its number from the table of refusals, and every tray is then as it was.
 ghost use Rattle.plans.specs.Opened.{Accepted};
-ghost use Rattle.lookups.specs.Says.{PlanSays, LookupSays};
+ghost use Rattle.calls.specs.Answers.{Into};
+ghost use Rattle.lookups.specs.Says.{answerAt, LaidIn, PlanSays, LookupSays, SmudgedSays};
 use calls::Checked;
 use calls::refusals;
+use fitting::Fit;
 use shape::Strip;
 
 // The answer's bytes: the section's number in 2, then the distance in 8.
@@ -16,13 +13,19 @@ const SECTION: usize = 2;
 
 const ANSWER: usize = 10;
 
-// Over the start of the tray.
-fn put_answer(section: u64, distance: u64, tray: &mut [u8])
-    requires { ⌜ 10 ≤ length (now tray) ⌝ }
-    ensures { λ _. ⌜ now (tray .exit) ≡ over (putBe 2 section ++ putBe 8 distance) (now (tray .entry)) ⌝ }
+// The answer for the window at a place into the tray; 6 if the tray is too small. `laying` is the section's number, plus 1.
+fn give(plan: &[u8], place: u64, laying: u64, tray: &mut [u8]) -> u8
+    requires { ⌜ LaidIn (now plan) place laying ⌝ }
+    ensures { λ r. ⌜ Into 0 (answerAt (now (plan .entry)) place) (now (tray .entry)) (now (tray .exit)) r ⌝ }
 {
+    if tray.len() < ANSWER {
+        return refusals::TRAY_TOO_SMALL;
+    }
+    let section = laying - 1;
+    let distance = place - plans::section_at(plan, section).offset;
     buffers::put16(section, tray);
     buffers::put64(distance, &mut tray[SECTION..]);
+    0
 }
 
 // The plan's fault, or 0.
@@ -48,16 +51,7 @@ fn look_in(plan: &[u8], strip: Strip, window: &[u8], tray: &mut [u8]) -> u8
             if laying == 0 {
                 return refusals::NOT_LAID;
             }
-            if tray.len() < ANSWER {
-                return refusals::TRAY_TOO_SMALL;
-            }
-            let section = laying - 1;
-            put_answer(
-                section,
-                place - plans::section_at(plan, section).offset,
-                tray,
-            );
-            0
+            give(plan, place, laying, tray)
         }
     }
 }
@@ -69,5 +63,30 @@ pub fn look_up(plan: &[u8], window: &[u8], tray: &mut [u8]) -> u8
     match plans::open(plan) {
         Checked::Refused(number) => number,
         Checked::Strip(strip) => look_in(plan, strip, window, tray),
+    }
+}
+
+// The same of a window with erasures, in a plan that is accepted.
+fn fit_in(plan: &[u8], strip: Strip, window: &[u8], tray: &mut [u8]) -> u8
+    requires { ⌜ Accepted (now plan) strip ⌝ }
+    ensures { λ r. ⌜ SmudgedSays (now (plan .entry)) (now (window .entry)) (now (tray .entry)) (now (tray .exit)) r ⌝ }
+{
+    let fault = erasures::fault(strip.k, strip.n, window);
+    if fault != 0 {
+        return fault;
+    }
+    match fitting::find(plan, strip, window) {
+        Fit::Nowhere => refusals::NOT_LAID,
+        Fit::At(place) => give(plan, place, plans::laying(plan, place), tray),
+    }
+}
+
+// The section and the distance of some laid window that agrees at every mark that was read; byte 255 is one that was not, and there may be two.
+pub fn look_up_smudged(plan: &[u8], window: &[u8], tray: &mut [u8]) -> u8
+    ensures { λ r. ⌜ SmudgedSays (now (plan .entry)) (now (window .entry)) (now (tray .entry)) (now (tray .exit)) r ⌝ }
+{
+    match plans::open(plan) {
+        Checked::Refused(number) => number,
+        Checked::Strip(strip) => fit_in(plan, strip, window, tray),
     }
 }

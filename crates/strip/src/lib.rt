@@ -1,7 +1,7 @@
 // The boundary for C: each call is one line that calls its family, with the family's promise. include/strip.h declares them.
 ghost use Rattle.words.specs.Says.{RankSays, WordSays};
 ghost use Rattle.marks.specs.Says.{MarkSays, PlaceSays, PrintSays};
-ghost use Rattle.lookups.specs.Says.{LookupSays};
+ghost use Rattle.lookups.specs.Says.{LookupSays, SmudgedSays};
 
 // The rank of a word, as 8 bytes.
 #[no_mangle]
@@ -49,4 +49,12 @@ pub extern "C" fn look_up(plan: &[u8], window: &[u8], tray: &mut [u8]) -> u8
     ensures { λ r. ⌜ LookupSays (now (plan .entry)) (now (window .entry)) (now (tray .entry)) (now (tray .exit)) r ⌝ }
 {
     lookups::look_up(plan, window, tray)
+}
+
+// The same of a window in which up to two marks were not read, byte 255: of some laid window that agrees at all the others.
+#[no_mangle]
+pub extern "C" fn look_up_smudged(plan: &[u8], window: &[u8], tray: &mut [u8]) -> u8
+    ensures { λ r. ⌜ SmudgedSays (now (plan .entry)) (now (window .entry)) (now (tray .entry)) (now (tray .exit)) r ⌝ }
+{
+    lookups::look_up_smudged(plan, window, tray)
 }

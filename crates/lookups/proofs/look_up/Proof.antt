@@ -1,12 +1,11 @@
 -- `look_up` opens the plan, and looks the window up in one that is accepted; a refusal leaves the tray as it was.
 use mathlib.Core.Path.{refl}
-use mathlib.Core.List.{_++_}
-use Prim.Native.Nat.{_-_}
 use borrow.Author.Needs.{needs}
-use Rattle.theory.specs.Plans.{layingOf, distanceOf}
-use Rattle.buffers.specs.Buffers.{putBe}
+use Rattle.theory.specs.Strips.{placeOf}
+use Rattle.theory.specs.Plans.{shades, marks}
 use Rattle.calls.proofs.Answers.{into-refused}
 use Rattle.plans.proofs.Opening.{accepted}
+use Rattle.lookups.specs.Says.{answerAt}
 use Rattle.lookups.proofs.Laying.{plan-fault}
 use Rattle.lookups.proofs.look_up.Statement.{statement}
 use Rattle.lookups.proofs.look_up.Tie as tie
@@ -31,9 +30,8 @@ returns c =
     let opened = c .before .before .before in
     let a = opened .before .before .before .before .args in
     let s = a .plan .now in
-    let w = a .window .now in
-    let (is, some) = plan-fault s w (opened .open .ensures) (c .before .number .given .1) in
-    into-refused (putBe 2 (layingOf s w - 1) ++ putBe 8 (distanceOf s w)) (a .tray .now) is some refl
+    let (is, some) = plan-fault s _ (opened .open .ensures) (c .before .number .given .1) in
+    into-refused (answerAt s (placeOf (shades s) (marks s) (a .window .now))) (a .tray .now) is some refl
 
 same-length : tie.Need-same-length
 same-length c = search needs
