@@ -1,6 +1,6 @@
 -- Windows with erasures: the words that agree with one are its fillings; the places that fit, and when there is none; a window that was read in full.
 use mathlib.Core.Path.{_≡_, refl, sym, _∙_, ap, ap₂, subst}
-use mathlib.Core.Bool.{true, false, _&&_, _||_, not, false≢true}
+use mathlib.Core.Bool.{true, false, _||_, not, false≢true}
 use mathlib.Core.List.{List, [], _∷_}
 use mathlib.Core.Logic.{_⊎_, inl, inr, _↔_, _≢_}
 use Prim.Native.Nat.{ℕ, zero, suc, _+_, _*_, _/_, _%_, _^_, _≤_, _<_}
@@ -13,7 +13,7 @@ use Rattle.theory.specs.Words.{pick, firstOf, when, keep, marksOk}
 use Rattle.theory.specs.Lists.{In, here, there, countFrom}
 use Rattle.theory.specs.Strips.{strip, window, placeOf}
 use Rattle.theory.specs.Plans.{shades, marks, planFault, wordFault, laidAt, layingOf, lookupFault}
-use Rattle.theory.specs.Erasures.{unread, read, agrees, fitting, filling, smudgeFault, smudgedFault}
+use Rattle.theory.specs.Erasures.{unread, read, agrees, fitsAt, fitting, filling, smudgeFault, smudgedFault}
 use Rattle.theory.specs.Theorems.{Smudged}
 use Rattle.theory.proofs.Base.{test, and-l, and-r, and-in, or-right, same-test, nil-of}
 use Rattle.theory.proofs.Lists.{in-nil, in-some, no-members, keep-in, in-keep, keep-all, count-in, in-count}
@@ -113,13 +113,13 @@ agrees-filled k (a ∷ w) (b ∷ v) m h = elim (agrees-filled k w v (marks-tail 
 pub fitting-in : (s w : List ℕ) {p : ℕ} → In p (fitting s w)
     → (p < shades s ^ marks s) × (laidAt s p ≡ true) × (agrees w (window (shades s) (marks s) p) ≡ true)
 fitting-in s w {p} i =
-    let (listed, passes) = keep-in (λ q. laidAt s q && agrees w (window (shades s) (marks s) q)) (countFrom (shades s ^ marks s) 0) i in
+    let (listed, passes) = keep-in (fitsAt s w) (countFrom (shades s ^ marks s) 0) i in
     let (_, below-end) = count-in (shades s ^ marks s) 0 listed in
     (omega (arith, below-end), and-l (laidAt s p) _ passes, and-r (laidAt s p) _ passes)
 
 pub in-fitting : (s w : List ℕ) {p : ℕ} → p < shades s ^ marks s → laidAt s p ≡ true → agrees w (window (shades s) (marks s) p) ≡ true → In p (fitting s w)
 in-fitting s w {p} h laid agree =
-    in-keep (λ q. laidAt s q && agrees w (window (shades s) (marks s) q)) (in-count (shades s ^ marks s) 0 p (omega arith) (omega arith)) (and-in laid agree)
+    in-keep (fitsAt s w) (in-count (shades s ^ marks s) 0 p (omega arith) (omega arith)) (and-in laid agree)
 
 -- on an accepted plan, by the words that agree, each at its place
 module _ (s w : List ℕ) (good : planFault s ≡ 0) where

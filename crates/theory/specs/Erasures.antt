@@ -23,9 +23,12 @@ agrees [] (b ∷ v) = false
 agrees (a ∷ w) [] = false
 agrees (a ∷ w) (b ∷ v) = (unread a || eqb a b) && agrees w v
 
--- the places of the laid windows that agree, ascending
+-- does the window at a place fit: is it laid, and does it agree? The places where it does, ascending
+abbrev pub fitsAt : List ℕ → List ℕ → ℕ → Bool
+fitsAt s w p = laidAt s p && agrees w (window (shades s) (marks s) p)
+
 abbrev pub fitting : List ℕ → List ℕ → List ℕ
-fitting s w = keep (λ p. laidAt s p && agrees w (window (shades s) (marks s) p)) (countFrom (shades s ^ marks s) 0)
+fitting s w = keep (fitsAt s w) (countFrom (shades s ^ marks s) 0)
 
 -- filling c of a word: for its erasures the digits of c to the base k, the lowest first
 abbrev pub filling : ℕ → ℕ → List ℕ → List ℕ
