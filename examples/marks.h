@@ -13,23 +13,24 @@ static uint64_t number(const uint8_t *bytes, size_t count)
     return value;
 }
 
-/* Marks as they are written, 0 to 9 then a to z; any other character becomes a mark that every strip refuses. */
+/* Marks as they are written, 0 to 9 then a to z, and ? for one that was not read; any other character becomes a mark that every strip refuses. */
 static size_t marks_of(const char *text, uint8_t *marks, size_t room)
 {
     size_t count = 0;
     for (; count < room && text[count] != '\0'; count++) {
         char c = text[count];
-        marks[count] = (uint8_t)(c >= '0' && c <= '9' ? c - '0' : c >= 'a' && c <= 'z' ? c - 'a' + 10 : 255);
+        marks[count] = (uint8_t)(c >= '0' && c <= '9' ? c - '0' : c >= 'a' && c <= 'z' ? c - 'a' + 10 : c == '?' ? STRIP_UNREAD : STRIP_MOST_SHADES);
     }
     return count;
 }
 
-/* Prints where a window stands in a plan, or why that is not told. One mark more than any strip has is enough to be refused. */
+/* Prints where a window stands in a plan, or one that agrees with it, or why that is not told. One mark more than any strip has is enough to
+   be refused. */
 static void look(const uint8_t *plan, size_t plan_len, const char *text)
 {
     uint8_t window[STRIP_MOST_MARKS + 1], tray[STRIP_LAYING];
     size_t count = marks_of(text, window, sizeof window);
-    uint8_t refused = look_up(plan, plan_len, window, count, tray, sizeof tray);
+    uint8_t refused = look_up_smudged(plan, plan_len, window, count, tray, sizeof tray);
     if (refused != STRIP_FINE)
         printf("%s: refused %u, %s\n", text, refused, strip_meaning(refused));
     else

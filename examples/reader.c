@@ -1,6 +1,7 @@
 /* A reader's host: takes the marks that a trolley head read and prints where it stands.
 
-   Usage: reader PLAN MARKS..., e.g. reader sample.plan 1011 0010. Build and run it on the sample plan with examples/run. */
+   Usage: reader PLAN MARKS..., e.g. reader sample.plan 1011 '?000', where ? is a mark that the head could not read. Build and run it on the
+   sample plan with examples/run. */
 #include "marks.h"
 
 int main(int argc, char **argv)

@@ -8,7 +8,7 @@
    the tray behind the answer are never touched. A number in a tray has its highest byte first.
 
    A call may come with any numbers and with any bytes in its slices; if several refusals apply, the first in the order
-   7, 1, 8, 2, 3, 4, 5, 9, 6 is given. No call here gives 10, a lost cursor. What the caller must promise, since C cannot check it: each
+   7, 1, 8, 2, 11, 3, 4, 5, 9, 6 is given. No call here gives 10, a lost cursor. What the caller must promise, since C cannot check it: each
    pointer is valid for its length (a null pointer only with length 0), and the tray overlaps none of the other slices. The calls keep no
    state and may run in several threads at once, each with its own tray.
 
@@ -30,7 +30,7 @@ extern "C" {
 
 /* The major number rises with a change that a host must react to, the minor number with a new call. */
 #define STRIP_VERSION_MAJOR 1
-#define STRIP_VERSION_MINOR 0
+#define STRIP_VERSION_MINOR 1
 
 /* Limits: k from 2, n from 1, and k^n at most 2^60; sections of a plan, and its bytes. */
 #define STRIP_MOST_SHADES 36
@@ -38,6 +38,10 @@ extern "C" {
 #define STRIP_MOST_PLACES (UINT64_C(1) << 60)
 #define STRIP_MOST_SECTIONS 500
 #define STRIP_MOST_PLAN (4 + 16 * STRIP_MOST_SECTIONS)
+
+/* In look_up_smudged alone: the byte for a mark that the head could not read, and how many of these a window may have. */
+#define STRIP_UNREAD 255
+#define STRIP_MOST_UNREAD 2
 
 /* Numbers that a call returns. */
 enum {
@@ -50,7 +54,8 @@ enum {
     STRIP_TRAY_TOO_SMALL = 6, /* the tray is shorter than the answer */
     STRIP_TORN_PLAN = 7,      /* under 4 bytes, more than 500 sections, or a wrong total */
     STRIP_CROOKED_PLAN = 8,   /* a section is too short, overlaps the one ahead or ends behind the strip */
-    STRIP_NOT_LAID = 9        /* no section of the plan holds the window */
+    STRIP_NOT_LAID = 9,       /* no section of the plan holds the window, or one that agrees with it */
+    STRIP_TOO_SMUDGED = 11    /* three or more marks were not read */
 };
 
 /* What a returned number means, in words. */
@@ -66,6 +71,7 @@ static inline const char *strip_meaning(unsigned number) {
     case STRIP_TORN_PLAN: return "torn plan";
     case STRIP_CROOKED_PLAN: return "crooked plan";
     case STRIP_NOT_LAID: return "not laid";
+    case STRIP_TOO_SMUDGED: return "too smudged";
     }
     return "refused";
 }
@@ -107,6 +113,17 @@ uint8_t print_marks(uint64_t k, uint64_t n, uint64_t place, uint64_t marks, uint
 
    returns 0 and leaves 0 1, 0 0 0 0 0 0 0 2 in the tray: the window is read at place 10, in section 1, 2 marks from its start. */
 uint8_t look_up(const uint8_t *plan, size_t plan_len, const uint8_t *window, size_t window_len, uint8_t *tray, size_t tray_len);
+
+/* The same for a window in which up to two marks could not be read: byte STRIP_UNREAD, which is no bad mark here and is one in every other call.
+   The answer is the section and the distance of some laid window that agrees at every mark that was read. Which one, if several do, is
+   free, and may change: do not rely on it. With every mark read the answer is look_up's. Tray: 10 bytes, as for look_up.
+   Refusals: 7, 1, 8, 2, 11, 3, 9, 6, where 9 says that no laid window agrees.
+
+   With the plan above, the window {STRIP_UNREAD, 0, 0, 0} leaves 0 0, 0 0 0 0 0 0 0 0 in the tray: of 0000, at place 0, and 1000, at place 15
+   and over the strip's end, only the first is laid. {1, 0, 0, STRIP_UNREAD} is refused with 9.
+
+   Each unread mark of k shades makes k windows to be tried, so two of them at most 1,296. */
+uint8_t look_up_smudged(const uint8_t *plan, size_t plan_len, const uint8_t *window, size_t window_len, uint8_t *tray, size_t tray_len);
 
 #ifdef __cplusplus
 }

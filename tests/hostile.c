@@ -5,14 +5,14 @@
 #include "lent.h"
 #include <limits.h>
 
-enum { RANK, WORD, MARK, PLACE, PRINT, LOOK, CALLS };
-enum { SHADES = 36, LONGEST = 60, MOST_SECTIONS = 500, NUMBER = 8, LAYING = 10 };
+enum { RANK, WORD, MARK, PLACE, PRINT, LOOK, SMUDGED, CALLS };
+enum { SHADES = 36, LONGEST = 60, MOST_SECTIONS = 500, NUMBER = 8, LAYING = 10, UNREAD = 255, MOST_UNREAD = 2 };
 enum { MOST_WORD = 96, MOST_TRAY = 6000, MOST_PLAN = 9000 };
 #define MOST_PLACES ((uint64_t)1 << 60)
-static const char *const NAMES[CALLS] = {"rank_of", "word_of", "mark_at", "place_of", "print_marks", "look_up"};
+static const char *const NAMES[CALLS] = {"rank_of", "word_of", "mark_at", "place_of", "print_marks", "look_up", "look_up_smudged"};
 
 /* The order of the refusals. Those that apply are a mask with a bit for each number; what is counted by number has room for every bit. */
-#define IN_ORDER(X) X(7) X(1) X(8) X(10) X(2) X(3) X(4) X(5) X(9) X(6)
+#define IN_ORDER(X) X(7) X(1) X(8) X(10) X(2) X(11) X(3) X(4) X(5) X(9) X(6)
 #define LISTED(number) number,
 #define HAS_A_BIT(number) && (number) < BITS
 enum { BITS = sizeof(unsigned) * CHAR_BIT };
@@ -23,6 +23,7 @@ _Static_assert(1 IN_ORDER(HAS_A_BIT), "a refusal's number has no bit in a mask")
 _Static_assert(STRIP_MOST_SHADES == SHADES && STRIP_MOST_MARKS == LONGEST && STRIP_MOST_PLACES == MOST_PLACES, "limits of a strip");
 _Static_assert(STRIP_MOST_SECTIONS == MOST_SECTIONS && STRIP_MOST_PLAN == 4 + 16 * MOST_SECTIONS, "limits of a plan");
 _Static_assert(STRIP_NUMBER == NUMBER && STRIP_LAYING == LAYING, "bytes of an answer");
+_Static_assert(STRIP_UNREAD == UNREAD && STRIP_MOST_UNREAD == MOST_UNREAD, "marks that were not read");
 _Static_assert(MOST_PLAN >= 4 + 16 * (MOST_SECTIONS + 1) + 16, "a plan of one section too many, and a longer one, have room");
 
 struct ask {
@@ -142,9 +143,43 @@ static unsigned look_faults(const struct ask *a) {
     return faults;
 }
 
+static unsigned smudge_faults(uint64_t k, uint64_t n, const uint8_t *window, size_t length) {
+    unsigned faults = length != n ? 1u << 2 : 0;
+    int unread = 0;
+    for (size_t i = 0; i < length; i++) {
+        unread += window[i] == UNREAD;
+        if (window[i] >= k && window[i] != UNREAD) faults |= 1u << 3;
+    }
+    return unread > MOST_UNREAD ? faults | 1u << 11 : faults;
+}
+
+/* whether a window with shades tried in place of the marks that were not read, from the mark i on, is laid */
+static int some_laid(const struct ask *a, uint8_t *window, size_t i) {
+    uint8_t answer[LAYING];
+    while (i < a->input_length && window[i] != UNREAD) i++;
+    if (i == a->input_length) return laid(a, place_by_library(a->plan[0], a->plan[1], window), answer);
+    int found = 0;
+    for (unsigned shade = 0; shade < a->plan[0] && !found; shade++) {
+        window[i] = (uint8_t)shade;
+        found = some_laid(a, window, i + 1);
+    }
+    window[i] = UNREAD;
+    return found;
+}
+
+static unsigned smudged_faults(const struct ask *a) {
+    uint8_t window[LONGEST];
+    unsigned faults = plan_faults(a->plan, a->plan_length);
+    if (faults & 1u << 7) return faults;
+    faults |= smudge_faults(a->plan[0], a->plan[1], a->input, a->input_length);
+    if (faults != 0) return faults;
+    memcpy(window, a->input, a->input_length);
+    return some_laid(a, window, 0) ? 0 : 1u << 9;
+}
+
 static size_t answer_length(const struct ask *a) {
     size_t marks = a->marks > SIZE_MAX ? SIZE_MAX : (size_t)a->marks;
-    return a->call == WORD ? (size_t)a->n : a->call == PRINT ? marks : a->call == LOOK ? LAYING : NUMBER;
+    return a->call == WORD ? (size_t)a->n : a->call == PRINT ? marks : a->call == LOOK || a->call == SMUDGED ? LAYING : NUMBER;
 }
 
 /* the refusals that apply, 1 << number each; of a place or an index only over an admitted strip, of a tray only if nothing else applies */
@@ -153,6 +188,8 @@ static unsigned faults_of(const struct ask *a) {
     unsigned faults = 0;
     if (a->call == LOOK) {
         faults = look_faults(a);
+    } else if (a->call == SMUDGED) {
+        faults = smudged_faults(a);
     } else {
         int good = admitted(a->k, a->n, &places);
         if (!good) faults |= 1u << 1;
@@ -213,6 +250,18 @@ static int sound_print(const struct ask *a, const uint8_t *marks) {
            place_by_library(a->k, a->n, marks + a->marks - a->n) == (a->number + a->marks - a->n) % places;
 }
 
+/* the section and the distance are those of the window there, which agrees with what was read */
+static int sound_smudged(const struct ask *a, const uint8_t *answer) {
+    uint8_t right[LAYING], window[LONGEST];
+    uint64_t section = number_in(answer, 2), k = a->plan[0], n = a->plan[1];
+    if (section >= number_in(a->plan + 2, 2)) return 0;
+    uint64_t place = number_in(a->plan + 4 + 16 * section, 8) + number_in(answer + 2, 8);
+    if (!laid(a, place, right) || memcmp(answer, right, LAYING) != 0 || print_marks(k, n, place, n, window, n) != 0) return 0;
+    for (size_t i = 0; i < n; i++)
+        if (a->input[i] != UNREAD && a->input[i] != window[i]) return 0;
+    return 1;
+}
+
 static int sound(const struct ask *a, const uint8_t *answer) {
     round_trips[a->call]++;
     switch (a->call) {
@@ -221,6 +270,7 @@ static int sound(const struct ask *a, const uint8_t *answer) {
     case MARK: return sound_mark(a, number_in(answer, 8));
     case PLACE: return sound_place(a, number_in(answer, 8));
     case PRINT: return sound_print(a, answer);
+    case SMUDGED: return sound_smudged(a, answer);
     }
     uint8_t right[LAYING];
     return laid(a, place_by_library(a->plan[0], a->plan[1], a->input), right) && memcmp(answer, right, LAYING) == 0;
@@ -235,6 +285,7 @@ static unsigned call(const struct ask *a, const uint8_t *input, const uint8_t *p
     case MARK: return mark_at(a->k, a->n, a->number, tray->bytes, tray->length);
     case PLACE: return place_of(a->k, a->n, input, a->input_length, tray->bytes, tray->length);
     case PRINT: return print_marks(a->k, a->n, a->number, a->marks, tray->bytes, tray->length);
+    case SMUDGED: return look_up_smudged(plan, a->plan_length, input, a->input_length, tray->bytes, tray->length);
     }
     return look_up(plan, a->plan_length, input, a->input_length, tray->bytes, tray->length);
 }
@@ -334,20 +385,27 @@ static size_t tear(uint8_t *plan, size_t length, int how) {
     return length;
 }
 
+/* windows with their length first: so many for look_up, the others with marks that were not read; torn records are tried with a call's own */
+enum { PLAIN = 9 };
+static const uint8_t WINDOWS[][6] = {{4, 0, 0, 0, 0}, {4, 1, 1, 0, 0}, {4, 1, 1, 1, 1}, {3}, {5}, {0}, {4, 0, 0, 0, 2}, {3, 255}, {5, 2, 2},
+                                     {4, 255, 0, 0, 255}, {4, 1, 255, 1, 255}, {4, 1, 0, 0, 255}, {4, 255, 2, 0, 0}, {4, 254, 255, 0, 0},
+                                     {4, 255, 255, 255, 0}, {4, 255, 2, 255, 255}, {3, 255, 255, 255}, {5, 255, 255, 255, 255, 2}};
+
 static void all_plan_sets(void) {
-    static const uint8_t windows[][6] = {{4, 0, 0, 0, 0}, {4, 1, 1, 0, 0}, {4, 1, 1, 1, 1}, {3}, {5}, {0}, {4, 0, 0, 0, 2}, {3, 255}, {5, 2, 2}};
     static uint8_t plan[MOST_PLAN];
     for (size_t p = 0; p < sizeof PLAN_STRIPS / 2; p++)
         for (size_t s = 0; s < sizeof SECTIONS / sizeof *SECTIONS; s++)
             for (int how = 0; how < 10; how++)
-                for (size_t w = 0; w < sizeof windows / sizeof *windows; w++) {
+                for (size_t w = 0; w < sizeof WINDOWS / sizeof *WINDOWS; w++) {
                     memset(plan, 0, sizeof plan);
                     memcpy(plan, PLAN_STRIPS[p], 2);
                     put_number(plan + 2, SECTIONS[s][0], 2);
                     for (uint64_t i = 0; i < 2 * SECTIONS[s][0]; i++) put_number(plan + 4 + 8 * i, SECTIONS[s][1 + i], 8);
-                    struct ask a = {.call = LOOK, .plan = plan, .input = windows[w] + 1, .input_length = windows[w][0]};
+                    struct ask a = {.call = LOOK, .plan = plan, .input = WINDOWS[w] + 1, .input_length = WINDOWS[w][0]};
                     a.plan_length = tear(plan, 4 + 16 * (size_t)SECTIONS[s][0], how);
-                    try_trays(a);
+                    if (how == 0 || w < PLAIN) try_trays(a);
+                    a.call = SMUDGED;
+                    if (how == 0 || w >= PLAIN) try_trays(a);
                 }
 }
 
@@ -453,6 +511,13 @@ static size_t draw_window(const uint8_t *plan, size_t length, uint8_t *window) {
     return (size_t)n - (below(16) == 0);
 }
 
+/* some marks of a window that were not read; two of many shades are tried rarely, since that takes a place for each pair of shades */
+static void draw_smudge(uint64_t k, uint8_t *window, size_t length) {
+    uint64_t unread = below(below(8) == 0 ? 4 : 3);
+    if (unread == 2 && k > 8 && below(32) != 0) unread = 1;
+    for (; unread > 0 && length != 0; unread--) window[below(length)] = UNREAD;
+}
+
 static void draw_call(void) {
     static uint8_t word[256], plan[MOST_PLAN];
     uint64_t places;
@@ -464,10 +529,11 @@ static void draw_call(void) {
     if (a.call == WORD) a.number = draw_number(admitted(a.k, a.n, &places) ? lyndon_count(a.k, a.n) : 100);
     if (a.call == MARK || a.call == PRINT) a.number = draw_number(places);
     if (a.call == PRINT) a.marks = below(8) == 0 ? draw() >> below(64) : below(below(8) == 0 ? 2000 : 100);
-    if (a.call == LOOK) {
+    if (a.call == LOOK || a.call == SMUDGED) {
         a.plan_length = draw_plan(a.k % 256, a.n % 256, plan);
         a.input_length = draw_window(plan, a.plan_length, word);
     }
+    if (a.call == SMUDGED) draw_smudge(a.k, word, a.input_length);
     size_t exact = answer_length(&a) < 2000 ? answer_length(&a) : 2000;
     size_t lengths[] = {exact, exact, exact + 1, exact + 3, exact + below(64), exact == 0 ? 0 : exact - 1, below(64), 0};
     a.tray_length = lengths[below(8)];

@@ -1,15 +1,17 @@
 /* Reads calls with expected results, as vectors.py prints them, and compares the library: the number given back, the answer, and every
-   byte that must stay, with trays one byte short, exact and longer. Exits 1 if anything differs, or a call is never compared. */
+   byte that must stay, with trays one byte short, exact and longer. Of a smudged window several answers may be right: any of them is taken.
+   Exits 1 if anything differs, or a call is never compared. */
 #include "../include/strip.h"
 #include "lent.h"
 
-enum { MOST_BYTES = 1 << 14, MOST_TRAY = 64, CALLS = 6 };
-static const char *const NAMES[CALLS] = {"rank", "word", "mark", "place", "print", "look"};
+enum { RANK, WORD, MARK, PLACE, PRINT, LOOK, SMUDGED, CALLS };
+enum { MOST_BYTES = 1 << 14, MOST_TRAY = 64 };
+static const char *const NAMES[CALLS] = {"rank", "word", "mark", "place", "print", "look", "smudged"};
 
 struct vector {
     int call;
     uint64_t k, n, number, marks;
-    size_t input_length, plan_length, answer_length;
+    size_t input_length, plan_length, answer_length, answers; /* so many answers, each of that length, one after the other */
     uint8_t input[MOST_BYTES], plan[MOST_BYTES], answer[MOST_BYTES];
     unsigned refusal;
 };
@@ -43,22 +45,42 @@ static unsigned digit(char c) {
     return (unsigned)(c - 'a' + 10);
 }
 
-static size_t bytes_field(uint8_t *into) {
-    const char *text = field();
-    size_t length = strcmp(text, "-") == 0 ? 0 : strlen(text) / 2;
-    if (length > MOST_BYTES) bad_line("too many bytes");
+static size_t bytes_of(const char *text, size_t letters, uint8_t *into, size_t room) {
+    size_t length = letters / 2;
+    if (length > room) bad_line("too many bytes");
     for (size_t i = 0; i < length; i++) into[i] = (uint8_t)(digit(text[2 * i]) << 4 | digit(text[2 * i + 1]));
     return length;
+}
+
+static size_t bytes_field(uint8_t *into) {
+    const char *text = field();
+    return strcmp(text, "-") == 0 ? 0 : bytes_of(text, strlen(text), into, MOST_BYTES);
 }
 
 /* the bytes of an answer, as the header states them */
 static uint64_t answer_bytes(void) {
     switch (v.call) {
-    case 1: return v.n;
-    case 4: return v.marks;
-    case 5: return STRIP_LAYING;
+    case WORD: return v.n;
+    case PRINT: return v.marks;
+    case LOOK:
+    case SMUDGED: return STRIP_LAYING;
     }
     return STRIP_NUMBER;
+}
+
+/* the answers that are right, parted by commas, each as long as the header says; none of a refusal */
+static void answers_field(void) {
+    const char *text = field();
+    uint64_t length = v.refusal == STRIP_FINE ? answer_bytes() : 0;
+    v.answers = v.answer_length = 0;
+    for (int more = 1; more; v.answers++) {
+        size_t letters = strcmp(text, "-") == 0 ? 0 : strcspn(text, ",");
+        v.answer_length = bytes_of(text, letters, v.answer + v.answers * v.answer_length, MOST_BYTES - v.answers * v.answer_length);
+        if (v.answer_length != length) bad_line("an answer is not as long as the header says");
+        more = text[letters] == ',';
+        text += letters + 1;
+    }
+    if (v.answers != 1 && v.call != SMUDGED) bad_line("several answers");
 }
 
 static void parse(char *line) {
@@ -67,31 +89,38 @@ static void parse(char *line) {
     while (v.call < CALLS && strcmp(name, NAMES[v.call]) != 0) v.call++;
     if (v.call == CALLS) bad_line("no such call");
     v.input_length = v.plan_length = 0;
-    if (v.call == 5) {
+    int of_plan = v.call == LOOK || v.call == SMUDGED;
+    if (of_plan) {
         v.plan_length = bytes_field(v.plan);
     } else {
         v.k = number_field();
         v.n = number_field();
     }
-    if (v.call == 0 || v.call == 3 || v.call == 5) v.input_length = bytes_field(v.input);
+    if (of_plan || v.call == RANK || v.call == PLACE) v.input_length = bytes_field(v.input);
     else v.number = number_field();
-    if (v.call == 4) v.marks = number_field();
+    if (v.call == PRINT) v.marks = number_field();
     v.refusal = (unsigned)number_field();
-    v.answer_length = bytes_field(v.answer);
-    if (v.answer_length != (v.refusal == STRIP_FINE ? answer_bytes() : 0)) bad_line("an answer is not as long as the header says");
+    answers_field();
 }
 
 static unsigned call(const struct lent *input, const struct lent *plan, const struct lent *tray) {
     switch (v.call) {
-    case 0: return rank_of(v.k, v.n, input->bytes, input->length, tray->bytes, tray->length);
-    case 1: return word_of(v.k, v.n, v.number, tray->bytes, tray->length);
-    case 2: return mark_at(v.k, v.n, v.number, tray->bytes, tray->length);
-    case 3: return place_of(v.k, v.n, input->bytes, input->length, tray->bytes, tray->length);
-    case 4: return print_marks(v.k, v.n, v.number, v.marks, tray->bytes, tray->length);
-    case 5: return look_up(plan->bytes, plan->length, input->bytes, input->length, tray->bytes, tray->length);
+    case RANK: return rank_of(v.k, v.n, input->bytes, input->length, tray->bytes, tray->length);
+    case WORD: return word_of(v.k, v.n, v.number, tray->bytes, tray->length);
+    case MARK: return mark_at(v.k, v.n, v.number, tray->bytes, tray->length);
+    case PLACE: return place_of(v.k, v.n, input->bytes, input->length, tray->bytes, tray->length);
+    case PRINT: return print_marks(v.k, v.n, v.number, v.marks, tray->bytes, tray->length);
+    case LOOK: return look_up(plan->bytes, plan->length, input->bytes, input->length, tray->bytes, tray->length);
+    case SMUDGED: return look_up_smudged(plan->bytes, plan->length, input->bytes, input->length, tray->bytes, tray->length);
     }
-    (void)plan;
     exit(2);
+}
+
+/* whether the tray holds one of the answers, and no other byte is touched */
+static int holds_one(const struct lent *tray) {
+    for (size_t i = 0; i < v.answers; i++)
+        if (holds(tray, v.answer + i * v.answer_length, v.answer_length)) return 1;
+    return 0;
 }
 
 static void compare(size_t tray_length, unsigned long line) {
@@ -101,7 +130,7 @@ static void compare(size_t tray_length, unsigned long line) {
     struct lent tray = lend(tray_room, tray_length, kind);
     unsigned refusal = v.refusal == 0 && tray_length < v.answer_length ? STRIP_TRAY_TOO_SMALL : v.refusal;
     unsigned given = call(&input, &plan, &tray);
-    int right = given == refusal && holds(&tray, v.answer, refusal == 0 ? v.answer_length : 0) && holds(&input, v.input, v.input_length) &&
+    int right = given == refusal && (refusal == 0 ? holds_one(&tray) : holds(&tray, v.answer, 0)) && holds(&input, v.input, v.input_length) &&
                 holds(&plan, v.plan, v.plan_length);
     if (!right && failures++ < 20)
         printf("line %lu (%s), tray of %zu: number %u, expected %u%s\n", line, NAMES[v.call], tray_length, given, refusal,
@@ -121,6 +150,7 @@ static void compare_all(unsigned long line) {
     }
     if (v.answer_length != 0) compare(v.answer_length - 1, line);
     compare(v.answer_length, line);
+    if (v.call == LOOK || v.call == SMUDGED) compare(v.answer_length + 1, line);
     compare(v.answer_length + 3, line);
 }
 

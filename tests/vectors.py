@@ -4,6 +4,7 @@
     rank  K N WORD        REFUSAL ANSWER        mark  K N PLACE       REFUSAL ANSWER
     word  K N INDEX       REFUSAL ANSWER        print K N PLACE MARKS REFUSAL ANSWER
     place K N WINDOW      REFUSAL ANSWER        look  PLAN WINDOW     REFUSAL ANSWER
+    smudged PLAN WINDOW   REFUSAL ANSWER,ANSWER,..   any of the answers is right
 
 Bytes are written in hexadecimal, no bytes as "-". An optional argument is the most places of a small strip, of which all is printed.
 """
@@ -12,7 +13,7 @@ import sys
 from itertools import product
 
 import model
-from model import LARGE, admitted, letters, plan_bytes, small_strips, strip_of
+from model import LARGE, UNREAD, admitted, letters, plan_bytes, small_strips, strip_of
 
 HUGE = (2**60, 2**60 + 1, 2**63, 2**64 - 1)
 
@@ -51,6 +52,11 @@ def look(plan, window):
     print("look", text(plan), text(window), fault, text(answer))
 
 
+def smudged(plan, window):
+    fault, answers = model.look_up_smudged(plan, window)
+    print("smudged", text(plan), text(window), fault, ",".join(map(text, answers)) or "-")
+
+
 def both(k, n, marks_):
     rank(k, n, marks_)
     place(k, n, marks_)
@@ -86,6 +92,14 @@ def plans_of_the_rules():
     for sections in ([(12, 4)], [(13, 4)], [(0, 3)], [(0, 8), (7, 5)], [], [(0, 6), (8, 8)], [(0, 8), (8, 8)], [(0, 16)]):
         for window in model.words(2, 4):
             look(plan_bytes(2, 4, sections), window)
+
+
+def smudged_of_the_rules():
+    plan = plan_bytes(2, 4, [(0, 6), (8, 8)])
+    for window in model.smudged_windows(2, 4, 4):
+        smudged(plan, window)
+    smudged(plan, (UNREAD, 2, UNREAD, UNREAD))
+    smudged(plan, (UNREAD, 2, 0, 0))
 
 
 def cases_of_document_003():
@@ -225,6 +239,8 @@ def torn(plan):
 def plan_refusals():
     good, crooked = [(0, 6), (8, 8)], [(0, 6), (5, 8)]
     windows = [bytes(w) for w in ((0, 0, 0, 0), (1, 0, 0, 0), (0, 0, 0), (0, 0, 0, 0, 0), (0, 0, 0, 2), (0, 0, 255), (2,) * 5, ())]
+    smudged_ones = [bytes(w) for length in (3, 4, 5) for count in (0, 2, 3) for bad in ((), (2,), (254,))
+                    for w in [(UNREAD,) * count + bad + (0,) * (length - count - len(bad))] if len(w) == length]
     for k, n in ((2, 4), (1, 4), (2, 0), (2, 61), (0, 0), (255, 255), (37, 1)):
         for sections in (good, crooked, []):
             plan = plan_bytes(k, n, sections)
@@ -232,6 +248,10 @@ def plan_refusals():
                 look(plan, window)
                 for broken in torn(plan):
                     look(broken, window)
+            for window in smudged_ones:
+                smudged(plan, window)
+                for broken in torn(plan):
+                    smudged(broken, window)
     places, n = 16, 4
     bends = ([(0, n - 1)], [(0, 0)], [(places - n + 1, n)], [(places, n)], [(places, 0)], [(0, places + 1)],
              [(2**64 - 1, n)], [(2**64 - n, n)], [(0, 2**64 - 1)], [(4, 2**64 - 4)], [(1, 2**64 - 1)], [(2**64 - 8, 8), (0, 4)],
@@ -275,6 +295,40 @@ def small_plans(chance, many):
             look(broken, strip_of(k, n).marks(start, n))
 
 
+def small_smudged(chance, many):
+    """Every window with up to three marks unread of the strips with up to 64 places, in plans without sections, with one, with two that touch, and
+    in such as come."""
+    for k, n in small_strips(64):
+        windows, places = model.smudged_windows(k, n, 3), k**n
+        half = max(n, places // 2)
+        plans = [[], [(0, places)], [(0, half), (half, places - half)]] + [random_sections(places, n, chance.randint(1, 4), chance) for _ in range(many)]
+        for sections in plans:
+            plan = plan_bytes(k, n, sections)
+            for window in windows:
+                smudged(plan, window)
+
+
+def smudge(window, count, chance):
+    window = list(window)
+    for i in chance.sample(range(len(window)), min(count, len(window))):
+        window[i] = UNREAD
+    return tuple(window)
+
+
+def large_smudged(chance, many):
+    """Windows of 500 sections with marks unread, that begin in a section, at its end or in a gap; two unread marks of 36 shades are 1,296 windows."""
+    for k, n in LARGE:
+        strip = strip_of(k, n)
+        for m in (1, 500):
+            sections = spread(strip.places, n, m, chance)
+            plan = plan_bytes(k, n, sections)
+            for count in range(4):
+                for _ in range(many if k**count <= 200 else 1 + many // 4):
+                    offset, length = chance.choice(sections)
+                    at = chance.choice((offset, offset + length - n, offset + length - n + 1, offset + length - 1))
+                    smudged(plan, smudge(strip.marks(at % strip.places, n), count, chance))
+
+
 def spread(places, n, m, chance):
     """m sections over the whole strip, each second one touching the next."""
     room = places // m
@@ -300,6 +354,7 @@ def main():
     chance = random.Random(20261115)
     cases_of_the_rules()
     plans_of_the_rules()
+    smudged_of_the_rules()
     cases_of_document_003()
     cases_of_document_004()
     refusals()
@@ -311,6 +366,8 @@ def main():
         part_of_strip(k, n, chance, 60)
     small_plans(chance, 200)
     large_plans(chance, 6)
+    small_smudged(chance, 2)
+    large_smudged(chance, 6)
 
 
 if __name__ == "__main__":
