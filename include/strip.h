@@ -18,7 +18,8 @@
 
    Of the C library it needs memcpy and memset, and of the stack about 60 kB in mark_at and print_marks, 32 kB in the others. On a 2.5 GHz
    machine and the strip (2, 60), rank_of, place_of and look_up take some 4 us (look_up 11 us with 500 sections), word_of, mark_at and
-   print_marks some 120 to 150 us, and each mark printed a few ns more. Shorter windows take less. */
+   print_marks some 120 to 150 us, and each mark printed a few ns more. Shorter windows take less. look_up_smudged looks for 2 or 4 places on
+   that strip, for up to 1,296 with 36 shades, which take 0.5 to 1 ms. */
 #ifndef STRIP_H
 #define STRIP_H
 #include <stddef.h>
@@ -122,7 +123,7 @@ uint8_t look_up(const uint8_t *plan, size_t plan_len, const uint8_t *window, siz
    With the plan above, the window {STRIP_UNREAD, 0, 0, 0} leaves 0 0, 0 0 0 0 0 0 0 0 in the tray: of 0000, at place 0, and 1000, at place 15
    and over the strip's end, only the first is laid. {1, 0, 0, STRIP_UNREAD} is refused with 9.
 
-   Each unread mark of k shades makes k windows to be tried, so two of them at most 1,296. */
+   Each unread mark may be any of the k shades, so with two of them k * k windows are tried: at most 1,296. */
 uint8_t look_up_smudged(const uint8_t *plan, size_t plan_len, const uint8_t *window, size_t window_len, uint8_t *tray, size_t tray_len);
 
 #ifdef __cplusplus
