@@ -82,7 +82,7 @@ first-sorted (skips {f} {fs} {x} {xs} once s) = rw (absent f once s) (first-sort
 in-order : {f : ℕ} (rules : List Rule) → f ≡ tested rules → sorted order rules ≡ true → f ≡ given rules
 in-order rules e h = e ∙ sym (first-sorted (sorted-is order rules h))
 
--- the faults of each kind of argument; a fault that is a chain itself is one of tests in a row
+-- the faults of each kind of argument, each a chain of tests; chains of chains are one chain
 first-assoc : (a b c : ℕ) → firstOf (firstOf a b) c ≡ firstOf a (firstOf b c)
 first-assoc zero b c = refl
 first-assoc (suc a) b c = refl
