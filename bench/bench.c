@@ -6,10 +6,10 @@
 #include <stdlib.h>
 #include <time.h>
 
-enum { RANK, PLACE, WORD, MARK, LOOK, PRINT, CALLS };
+enum { RANK, PLACE, WORD, MARK, LOOK, SMUDGED, PRINT, CALLS };
 enum { LIBRARY, PLAIN, BEST, COPY, MAKERS };
 enum { INPUTS = 64, ROUNDS = 15, PRINTED = 1 << 20 };
-static const char *const NAMES[CALLS] = {"rank_of", "place_of", "word_of", "mark_at", "look_up", "print_marks"};
+static const char *const NAMES[CALLS] = {"rank_of", "place_of", "word_of", "mark_at", "look_up", "look_up_smudged", "print_marks"};
 static const uint64_t STRIPS[][2] = {{2, 60}, {4, 30}, {36, 11}};
 
 static uint64_t k, n, numbers[INPUTS];
@@ -29,6 +29,7 @@ static void draw_inputs(int call) {
     for (int i = 0; i < INPUTS; i++) {
         numbers[i] = draw() % limit + (call == WORD);
         for (uint64_t j = 0; j < n; j++) words[i][j] = (uint8_t)(draw() % k);
+        for (int unread = 0; call == SMUDGED && unread < STRIP_MOST_UNREAD; unread++) words[i][draw() % n] = STRIP_UNREAD;
     }
     uint64_t room = places_of(k, n) / SECTIONS;
     plan[0] = (uint8_t)k;
@@ -36,7 +37,8 @@ static void draw_inputs(int call) {
     put_number(plan + 2, SECTIONS, 2);
     for (uint64_t i = 0; i < SECTIONS; i++) {
         put_number(plan + 4 + 16 * i, i * room, 8);
-        put_number(plan + 12 + 16 * i, room - i % 2 * (room / 8), 8);
+        /* of smudged windows hardly any is laid, so that all fillings are tried */
+        put_number(plan + 12 + 16 * i, call == SMUDGED ? n : room - i % 2 * (room / 8), 8);
     }
 }
 
@@ -48,6 +50,7 @@ static void draw_inputs(int call) {
         case WORD: return name##word_of(k, n, numbers[i], tray, MOST);                                                                  \
         case MARK: return name##mark_at(k, n, numbers[i], tray, MOST);                                                                  \
         case LOOK: return name##look_up(plan, sizeof plan, words[i], n, tray, MOST);                                                    \
+        case SMUDGED: return name##look_up_smudged(plan, sizeof plan, words[i], n, tray, MOST);                                         \
         default: return name##print_marks(k, n, numbers[i], PRINTED, printed[maker], PRINTED);                                          \
         }
 

@@ -13,7 +13,8 @@ enum { MOST = 60, SECTIONS = 500 };
     uint8_t name##_mark_at(uint64_t k, uint64_t n, uint64_t place, uint8_t *tray, size_t tray_len);                                    \
     uint8_t name##_place_of(uint64_t k, uint64_t n, const uint8_t *window, size_t window_len, uint8_t *tray, size_t tray_len);         \
     uint8_t name##_print_marks(uint64_t k, uint64_t n, uint64_t place, uint64_t marks, uint8_t *tray, size_t tray_len);                \
-    uint8_t name##_look_up(const uint8_t *plan, size_t plan_len, const uint8_t *window, size_t window_len, uint8_t *tray, size_t tray_len)
+    uint8_t name##_look_up(const uint8_t *plan, size_t plan_len, const uint8_t *window, size_t window_len, uint8_t *tray, size_t tray_len); \
+    uint8_t name##_look_up_smudged(const uint8_t *plan, size_t plan_len, const uint8_t *window, size_t window_len, uint8_t *tray, size_t tray_len)
 CALLS_OF(plain);
 CALLS_OF(best);
 
@@ -82,6 +83,41 @@ static inline uint8_t plan_fault(const uint8_t *plan, size_t length) {
         end = offset + size;
     }
     return 0;
+}
+
+/* the section and the distance of the window at a place of an accepted plan, as the answer's 10 bytes; 0 if it is not laid */
+typedef int laid_at(const uint8_t *plan, size_t plan_len, uint64_t place, uint8_t *answer);
+typedef uint8_t place_call(uint64_t k, uint64_t n, const uint8_t *window, size_t window_len, uint8_t *tray, size_t tray_len);
+
+/* a window looked up in a plan without fault */
+static inline uint8_t look_in(place_call *place_of_it, laid_at *laid, const uint8_t *plan, size_t plan_len, const uint8_t *window, size_t window_len,
+                              uint8_t *tray, size_t tray_len) {
+    uint8_t found[8], answer[STRIP_LAYING], fault = place_of_it(plan[0], plan[1], window, window_len, found, 8);
+    if (fault != 0) return fault;
+    if (!laid(plan, plan_len, get_number(found, 8), answer)) return 9;
+    if (tray_len < sizeof answer) return 6;
+    memcpy(tray, answer, sizeof answer);
+    return 0;
+}
+
+/* a smudged window of n marks, two of them unread at most: its fillings in the library's order, the first unread mark the quickest, so that all
+   pick the same window */
+static inline uint8_t fit_in(place_call *place_of_it, laid_at *laid, const uint8_t *plan, size_t plan_len, const uint8_t *window, size_t window_len,
+                             uint8_t *tray, size_t tray_len) {
+    uint8_t filled[MOST], given = 9;
+    uint64_t total = 1;
+    for (size_t i = 0; i < window_len; i++) total *= window[i] == STRIP_UNREAD ? plan[0] : 1;
+    for (uint64_t filling = 0; filling < total && given == 9; filling++) {
+        uint64_t rest = filling;
+        for (size_t i = 0; i < window_len; i++) {
+            filled[i] = window[i];
+            if (window[i] != STRIP_UNREAD) continue;
+            filled[i] = (uint8_t)(rest % plan[0]);
+            rest /= plan[0];
+        }
+        given = look_in(place_of_it, laid, plan, plan_len, filled, window_len, tray, tray_len);
+    }
+    return given;
 }
 
 /* the length of the shortest word that, repeated, gives a word that is its own smallest rotation */

@@ -14,6 +14,8 @@ Before it is measured, all answers are compared. Ratios only; on a busy machine 
   For a cursor's step (`bench/strides.c`, called from no C): the same tests and steps, a million on each strip.
 - **memcpy**: copying as many bytes as were printed.
 
+Plans have 500 sections. A smudged window has two unread marks, and hardly any filling is laid, so that all are tried: 4, 16 and 1,296 on the three strips.
+
 Why the library is slower than the best C, as far as parts of a call were measured by themselves (not in this run):
 
 - Ranks and places: the library fills a table of 61 times 61 numbers, as the rules ask, where `best.c` keeps two rows. Clearing the table is a twentieth of a rank on (2, 60) and
