@@ -1,55 +1,39 @@
 -- The faults of each kind of argument, tested one after the other, give the first of `order` that applies.
 use mathlib.Core.Path.{_≡_, refl, sym, _∙_, ap, ap₂}
-use mathlib.Core.Bool.{Bool, true, false, _&&_, _||_, not, false≢true}
+use mathlib.Core.Bool.{Bool, true, false, _||_, false≢true}
 use mathlib.Core.List.{List, [], _∷_}
-use mathlib.Core.Logic.{inl, inr}
-use Prim.Native.Nat.{ℕ, zero, suc}
+use mathlib.Core.Logic.{_⊎_, inl, inr}
+use Prim.Native.Nat.{ℕ}
 use lib.Dec.{eqb}
-use borrow.Author.Tests.{eqb-true, eqb-false, eq-eqb, not-true}
+use borrow.Author.Tests.{eqb-true, eq-eqb, ne-eqb}
 use Rattle.theory.specs.Words.{pick, firstOf, when}
-use Rattle.theory.proofs.Base.{test, and-l, and-r, and-false}
-use Rattle.theory.proofs.Faults.{first-some}
+use Rattle.theory.specs.Lists.{In, here, there, Once}
+use Rattle.theory.proofs.Base.{test, and-false}
+use Rattle.theory.proofs.Faults.{first-some, first-assoc, first-zero}
 use Rattle.calls.specs.Order.{order, Rule, rule, appliesIn, firstBy, given}
+use Rattle.calls.proofs.Order.{order-once, some}
 
 -- rules, tested one after the other
 abbrev tested : List Rule → ℕ
 tested [] = 0
 tested (x ∷ xs) = firstOf (when (x .applies) (x .number)) (tested xs)
 
--- their numbers stand so in a list of numbers, in which none is 0 and none comes twice; as a test that computes, whatever applies
-abbrev without : ℕ → List ℕ → Bool
-without f [] = true
-without f (g ∷ gs) = not (eqb f g) && without f gs
-
+-- do their numbers stand so in a list of numbers? It computes, whatever applies
 abbrev sorted : List ℕ → List Rule → Bool
 sorted fs [] = true
 sorted [] (x ∷ xs) = false
-sorted (f ∷ fs) (x ∷ xs) = not (eqb f 0) && (without f fs && pick (eqb f (x .number)) (sorted fs xs) (sorted fs (x ∷ xs)))
-
-data Sorted : List ℕ → List Rule → Type 0 where
-  none : {fs : List ℕ} → Sorted fs []
-  takes : {f : ℕ} {fs : List ℕ} {x : Rule} {xs : List Rule} → ¬ (f ≡ 0) → without f fs ≡ true → f ≡ x .number → Sorted fs xs → Sorted (f ∷ fs) (x ∷ xs)
-  skips : {f : ℕ} {fs : List ℕ} {x : Rule} {xs : List Rule} → without f fs ≡ true → Sorted fs (x ∷ xs) → Sorted (f ∷ fs) (x ∷ xs)
-
-sorted-is : (fs : List ℕ) (rules : List Rule) → sorted fs rules ≡ true → Sorted fs rules
-sorted-is fs [] h = none
-sorted-is [] (x ∷ xs) h = absurd (false≢true h)
-sorted-is (f ∷ fs) (x ∷ xs) h =
-    let r = and-r (not (eqb f 0)) _ h in
-    let once = and-l (without f fs) _ r in
-    let s = and-r (without f fs) _ r in
-    elim (test (eqb f (x .number))) [
-      | inl t ↦ takes (eqb-false f 0 (not-true _ (and-l _ _ h))) once (eqb-true f (x .number) t) (sorted-is fs xs (rw t at s))
-      | inr t ↦ skips once (sorted-is fs (x ∷ xs) (rw t at s))
-    ]
+sorted (f ∷ fs) (x ∷ xs) = pick (eqb f (x .number)) (sorted fs xs) (sorted fs (x ∷ xs))
 
 -- a number that is not in the list applies by none of the rules
-absent : (f : ℕ) {fs : List ℕ} {rules : List Rule} → without f fs ≡ true → Sorted fs rules → appliesIn f rules ≡ false
-absent f w none = refl
-absent f w (takes {f = g} {x = x} some once e s) =
-    let other : eqb f (x .number) ≡ false = ap (eqb f) (sym e) ∙ not-true _ (and-l _ _ w) in
-    rw other (absent f (and-r (not (eqb f g)) _ w) s)
-absent f w (skips {f = g} once s) = absent f (and-r (not (eqb f g)) _ w) s
+absent : (f : ℕ) (fs : List ℕ) (rules : List Rule) → ¬ In f fs → sorted fs rules ≡ true → appliesIn f rules ≡ false
+absent f fs [] n h = refl
+absent f [] (x ∷ xs) n h = absurd (false≢true h)
+absent f (g ∷ fs) (x ∷ xs) n h = elim (test (eqb g (x .number))) [
+  | inl t ↦
+      let other : eqb f (x .number) ≡ false = ne-eqb f (x .number) (λ e. n (here (e ∙ sym (eqb-true g (x .number) t)))) in
+      rw other (absent f fs xs (λ i. n (there i)) (rw t at h))
+  | inr t ↦ absent f fs (x ∷ xs) (λ i. n (there i)) (rw t at h)
+]
 
 -- a rule that does not apply counts for nothing
 idle-one : (f : ℕ) (x : Rule) (xs : List Rule) → x .applies ≡ false → appliesIn f (x ∷ xs) ≡ appliesIn f xs
@@ -63,34 +47,26 @@ no-rules : (fs : List ℕ) → firstBy fs [] ≡ 0
 no-rules [] = refl
 no-rules (f ∷ fs) = no-rules fs
 
-first-sorted : {fs : List ℕ} {rules : List Rule} → Sorted fs rules → firstBy fs rules ≡ tested rules
-first-sorted (none {fs}) = no-rules fs
-first-sorted (takes {f} {fs} {x} {xs} some once e s) = elim (test (x .applies)) [ inl t ↦ first t | inr t ↦ later t (first-sorted s) ]
+first-sorted : (fs : List ℕ) (rules : List Rule) → Once fs → ((f : ℕ) → In f fs → ¬ (f ≡ 0)) → sorted fs rules ≡ true → firstBy fs rules ≡ tested rules
+first-sorted fs [] o z h = no-rules fs
+first-sorted [] (x ∷ xs) o z h = absurd (false≢true h)
+first-sorted (f ∷ fs) (x ∷ xs) o z h = elim (test (eqb f (x .number))) [
+  | inl t ↦ takes (eqb-true f (x .number) t) (rw t at h) (first-sorted fs xs (o .1) (λ g i. z g (there i)) (rw t at h)) (test (x .applies))
+  | inr t ↦ let g : sorted fs (x ∷ xs) ≡ true = rw t at h in rw (absent f fs (x ∷ xs) (o .0) g) (first-sorted fs (x ∷ xs) (o .1) (λ y i. z y (there i)) g)
+]
   where
-    first : x .applies ≡ true → firstBy (f ∷ fs) (x ∷ xs) ≡ tested (x ∷ xs)
-    first t =
+    takes : f ≡ x .number → sorted fs xs ≡ true → firstBy fs xs ≡ tested xs → (x .applies ≡ true) ⊎ (x .applies ≡ false) → firstBy (f ∷ fs) (x ∷ xs) ≡ tested (x ∷ xs)
+    takes e s ih (inl t) =
         let it : appliesIn f (x ∷ xs) ≡ true = rw (eq-eqb f (x .number) e, t) in
-        ap (λ b. pick b f (firstBy fs (x ∷ xs))) it ∙ e ∙ sym (ap (λ b. firstOf (when b (x .number)) (tested xs)) t ∙ first-some (x .number) (tested xs) (λ z. some (e ∙ z)))
-
-    later : x .applies ≡ false → firstBy fs xs ≡ tested xs → firstBy (f ∷ fs) (x ∷ xs) ≡ tested (x ∷ xs)
-    later t ih =
-        ap (λ b. pick b f (firstBy fs (x ∷ xs))) (idle-one f x xs t ∙ absent f once s) ∙ idle fs x xs t ∙ ih
-        ∙ sym (ap (λ b. firstOf (when b (x .number)) (tested xs)) t)
-first-sorted (skips {f} {fs} {x} {xs} once s) = rw (absent f once s) (first-sorted s)
+        ap (λ b. pick b f (firstBy fs (x ∷ xs))) it ∙ e ∙ sym (ap (λ b. firstOf (when b (x .number)) (tested xs)) t ∙ first-some (x .number) (tested xs) (λ y. z f (here refl) (e ∙ y)))
+    takes e s ih (inr t) =
+        ap (λ b. pick b f (firstBy fs (x ∷ xs))) (idle-one f x xs t ∙ absent f fs xs (o .0) s) ∙ idle fs x xs t ∙ ih ∙ sym (ap (λ b. firstOf (when b (x .number)) (tested xs)) t)
 
 -- so the test is all that is to be shown
 in-order : {f : ℕ} (rules : List Rule) → f ≡ tested rules → sorted order rules ≡ true → f ≡ given rules
-in-order rules e h = e ∙ sym (first-sorted (sorted-is order rules h))
+in-order rules e h = e ∙ sym (first-sorted order rules order-once (λ f i. some i) h)
 
 -- the faults of each kind of argument, each a chain of tests; chains of chains are one chain
-first-assoc : (a b c : ℕ) → firstOf (firstOf a b) c ≡ firstOf a (firstOf b c)
-first-assoc zero b c = refl
-first-assoc (suc a) b c = refl
-
-first-zero : (a : ℕ) → firstOf a 0 ≡ a
-first-zero zero = refl
-first-zero (suc a) = refl
-
 pub strip-number : (a : Bool) → when a 1 ≡ given (rule 1 a ∷ [])
 strip-number a = in-order (rule 1 a ∷ []) (simp first-zero) refl
 

@@ -34,7 +34,10 @@ once-before [] after o i = elim i [ ]
 once-before (g ∷ before) after o (here e) = o .0 (in-append-right before (here (sym e)))
 once-before (g ∷ before) after o (there i) = once-before before after (o .1) i
 
-some : {f : ℕ} → In f order → ¬ (f ≡ 0)
+pub order-once : Once order
+order-once = apart-once order refl
+
+pub some : {f : ℕ} → In f order → ¬ (f ≡ 0)
 some i e = false≢true (in-test (subst (λ g. In g order) e i))
 
 -- the first of a list that applies
@@ -74,7 +77,7 @@ module _ (rules : List Rule) where
   given-first before after f e = (into, out)
     where
       alone : ¬ In f before
-      alone = once-before before after (subst Once e (apart-once order refl))
+      alone = once-before before after (subst Once e order-once)
 
       into : given rules ≡ f → (appliesIn f rules ≡ true) × ((g : ℕ) → In g before → appliesIn g rules ≡ false)
       into h = (applies order h (some (subst (In f) (sym e) (in-append-right before (here refl)))), first-in before after f alone (ap (λ fs. firstBy fs rules) (sym e) ∙ h))

@@ -7,7 +7,6 @@ use native.Mathlib.Omega.{arith}
 use native.Mathlib.Decide.{ℕ-discrete}
 use lib.Dec.{eqb}
 use lib.ListN.{length, drop}
-use borrow.Author.Tests.{eqb-false, ne-eqb, not-true}
 use Rattle.theory.specs.Words.{pick, keep}
 use Rattle.theory.specs.Strips.{window, placeOf}
 use Rattle.theory.specs.Plans.{be, shades, marks, sectionCount, sections, nthS, planFault, layingAt, laidAt, distanceAt, lookupFault, layingOf}
@@ -23,7 +22,7 @@ use Rattle.calls.specs.Answers.{Into}
 use Rattle.calls.proofs.Answers.{into-given}
 use Rattle.plans.proofs.Tests.{accepted-whole}
 use Rattle.lookups.specs.Says.{answerAt, answerSize, LookupSays, SmudgedSays}
-use Rattle.demands.proofs.Trays.{into-fine, answered, answers, smudged-picked, smudged-refused, smudged-answers}
+use Rattle.demands.proofs.Trays.{into-fine, answered, answers, smudged-picked, smudged-refusal, smudged-answers}
 
 -- the answer for a laid window, read back: few sections, and no place above 2^60
 module _ (s : List ℕ) (p : ℕ) (good : planFault s ≡ 0) (laid : laidAt s p ≡ true) (t : List ℕ) {t′ : List ℕ} (tray : t′ ≡ over (answerAt s p) t) where
@@ -35,10 +34,6 @@ module _ (s : List ℕ) (p : ℕ) (good : planFault s ≡ 0) (laid : laidAt s p 
       let (_, is, ends) = theory.laid-at s p good laid in
       ap (be 2 8) tray ∙ put-read 8 (distanceAt s p) (omega (arith, is, ends, admitted-limits (shades s) (marks s) (theory.plan-good s good .1) .range))
 
--- from a section's number
-laid-in : (s : List ℕ) (p : ℕ) {i : ℕ} → layingAt s p ≡ suc i → laidAt s p ≡ true
-laid-in s p e = ap not (ne-eqb (layingAt s p) 0 (λ z. omega arith))
-
 pub laid : (s : List ℕ) (i d : ℕ) (t t′ : List ℕ) (r : ℕ) → planFault s ≡ 0 → i < sectionCount s → d + marks s ≤ nthS (sections s) i .long
     → answerSize ≤ length t → LookupSays s (window (shades s) (marks s) (nthS (sections s) i .offset + d)) t t′ r
     → (r ≡ 0) × (be 0 2 t′ ≡ i) × (be 2 8 t′ ≡ d) × (drop answerSize t′ ≡ drop answerSize t)
@@ -47,7 +42,7 @@ laid s i d t t′ r good h fits room e =
     let p = placeOf (shades s) (marks s) w in
     let (fine, laying, distance) = theory.laid s i d good h fits in
     let (number, tray) = into-fine (lookupFault s w) (answerAt s p) t fine room e in
-    let there = laid-in s p laying in
+    let there = theory.some-laid s p (λ z. omega (arith, laying)) in
     (number, section-back s p good there t tray ∙ omega (arith, laying), distance-back s p good there t tray ∙ distance, ap (drop answerSize) tray)
 
 pub laid-only : (s w t t′ : List ℕ) (r : ℕ) → LookupSays s w t t′ r → r ≡ 0
@@ -94,7 +89,7 @@ module _ (s w t t′ : List ℕ) (r : ℕ) (e : SmudgedSays s w t t′ r) where
       let number = section-back s p good there t tray in
       let (few, at, _) = theory.laid-at s p good there in
       let place : nthS (sections s) (be 0 2 t′) .offset + be 2 8 t′ ≡ p = ap₂ (λ j d. nthS (sections s) j .offset + d) number (distance-back s p good there t tray) ∙ at in
-      let some = eqb-false (layingAt s p) 0 (not-true _ there) in (
+      let some = theory.laid-some s p there in (
         omega (arith, number, few),
         ap (layingAt s) place ∙ omega (arith, number, some),
         ap (λ q. agrees w (window (shades s) (marks s) q)) place ∙ agree,
@@ -111,5 +106,5 @@ module _ (s w t t′ : List ℕ) (r : ℕ) (e : SmudgedSays s w t t′ r) where
             let x = smudged-picked s w t t′ r e fine in
             let own = fitting-full s w full (first-none (planFault s) _ fine .0) (x .fits) in
             into-given t (sym same ∙ fine) (ap (answerAt s) own) (x .answer)
-        | no some ↦ subst (λ f. Into f (pick (eqb f 0) answer []) t t′ r) same (smudged-refused s w t t′ r e some answer)
+        | no some ↦ subst (λ f. Into f (pick (eqb f 0) answer []) t t′ r) same (smudged-refusal s w t t′ r e some answer)
       ]

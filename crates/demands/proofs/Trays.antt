@@ -142,13 +142,13 @@ look-up-answers s w t t′ r e = answers (answerAt s (placeOf (shades s) (marks 
 pub smudged-picked : (s w t t′ : List ℕ) (r : ℕ) → SmudgedSays s w t t′ r → smudgedFault s w ≡ 0 → Picked s w t t′ r
 smudged-picked s w t t′ r e fine = subst (λ f. pickT (eqb f 0) (Picked s w t t′ r) (Into f [] t t′ r)) fine e
 
-pub smudged-refused : (s w t t′ : List ℕ) (r : ℕ) → SmudgedSays s w t t′ r → smudgedFault s w ≢ 0 → (b : List ℕ) → Into (smudgedFault s w) (pick (eqb (smudgedFault s w) 0) b []) t t′ r
-smudged-refused s w t t′ r e some b = let other = ne-eqb (smudgedFault s w) 0 some in rw other (rw other at e)
+pub smudged-refusal : (s w t t′ : List ℕ) (r : ℕ) → SmudgedSays s w t t′ r → smudgedFault s w ≢ 0 → (b : List ℕ) → Into (smudgedFault s w) (pick (eqb (smudgedFault s w) 0) b []) t t′ r
+smudged-refusal s w t t′ r e some b = let other = ne-eqb (smudgedFault s w) 0 some in rw other (rw other at e)
 
 pub smudged-answers : (s w t t′ : List ℕ) (r : ℕ) → SmudgedSays s w t t′ r → Answers answerSize (smudgedFault s w) t t′ r
 smudged-answers s w t t′ r e = elim (ℕ-discrete (smudgedFault s w) 0) [
   | yes fine ↦ let x = smudged-picked s w t t′ r e fine in answers (answerAt s (x .place)) (λ _. refl) (into-given t fine refl (x .answer))
-  | no some ↦ answers [] (λ z. absurd (some z)) (smudged-refused s w t t′ r e some [])
+  | no some ↦ answers [] (λ z. absurd (some z)) (smudged-refusal s w t t′ r e some [])
 ]
 
 pub trays : Trays

@@ -7,12 +7,13 @@ use native.Mathlib.Omega.{arith}
 use lib.Dec.{eqb}
 use lib.ListN.{length}
 use borrow.Author.Tests.{ne-eqb}
-use Rattle.theory.specs.Words.{when, keep, marksOk}
+use Rattle.theory.specs.Words.{pick, when, keep, marksOk}
 use Rattle.theory.specs.Lists.{In}
 use Rattle.theory.specs.Strips.{placeOf}
 use Rattle.theory.specs.Plans.{shades, marks, layingAt, laidAt}
 use Rattle.theory.specs.Erasures.{unread, fitting, filling}
 use Rattle.theory.proofs.Lists.{in-some}
+use Rattle.theory.proofs.Laying.{some-laid}
 use Rattle.theory.proofs.Erasures.{smudge-fine, filling-length, filling-agrees, filling-marks, laid-fits, none-filled}
 use Rattle.shape.specs.declared.Strip as DS
 use Rattle.shape.specs.Shapes.{WordOn}
@@ -20,27 +21,27 @@ use Rattle.shape.proofs.Limits.{limits}
 use Rattle.locator.proofs.Locates.{place-small}
 use Rattle.fitting.specs.declared.Fit.{Fit}
 use Rattle.fitting.specs.declared.Fit.the-variants.{At, Nowhere}
-use Rattle.fitting.specs.Fits.{Sought, fitAt, pickFit, Finds}
+use Rattle.fitting.specs.Fits.{Sought, fitAt, Finds}
 
 -- what the answer for a place says
 never : {p : ℕ} → Nowhere ≡ At p → ⊥
 never e = let z : _≡_ {A = ℕ} 0 1 = cc in omega arith
 
-fit-found : (t : Bool) {p q : ℕ} → pickFit t (At p) Nowhere ≡ At q → (t ≡ true) × (p ≡ q)
+fit-found : (t : Bool) {p q : ℕ} → pick t (At p) Nowhere ≡ At q → (t ≡ true) × (p ≡ q)
 fit-found true {p} {q} e = let is : p ≡ q = cc in (refl, is)
 fit-found false e = absurd (never e)
 
-fit-none : (t : Bool) (p : ℕ) → pickFit t (At p) Nowhere ≡ Nowhere → t ≡ false
+fit-none : (t : Bool) (p : ℕ) → pick t (At p) Nowhere ≡ Nowhere → t ≡ false
 fit-none true p e = absurd (never (sym e))
 fit-none false p e = refl
 
 -- and how it is found: by the section l of the window there
 module _ (s : List ℕ) {p q l : ℕ} (place : p ≡ q) (section : l ≡ layingAt s p) where
   pub fit-nowhere : l ≡ 0 → Nowhere ≡ fitAt s q
-  fit-nowhere z = ap (λ i. pickFit (not (eqb i 0)) (At p) Nowhere) (sym z ∙ section) ∙ ap (fitAt s) place
+  fit-nowhere z = ap (λ i. pick (not (eqb i 0)) (At p) Nowhere) (sym z ∙ section) ∙ ap (fitAt s) place
 
   pub fit-place : ¬ (l ≡ 0) → At p ≡ fitAt s q
-  fit-place some = sym (ap (λ t. pickFit (not t) (At p) Nowhere) (ne-eqb _ 0 (λ z. some (section ∙ z)))) ∙ ap (fitAt s) place
+  fit-place some = sym (ap (λ t. pick t (At p) Nowhere) (some-laid s p (λ z. some (section ∙ z)))) ∙ ap (fitAt s) place
 
 module _ {s : List ℕ} {x : DS.Strip} {w : List ℕ} (h : Sought s x w) where
   pub window-long : length w ≡ x .n

@@ -1,11 +1,10 @@
 -- The search for a laid window that agrees with one that has erasures: what it asks for, and what it answers.
 use mathlib.Core.Path.{_≡_}
-use mathlib.Core.Bool.{Bool, true, false}
 use mathlib.Core.List.{List, []}
 use Prim.Native.Nat.{ℕ}
 use lib.Dec.{eqb}
 use lib.ListN.{length}
-use Rattle.theory.specs.Words.{when}
+use Rattle.theory.specs.Words.{pick, when}
 use Rattle.theory.specs.Lists.{In}
 use Rattle.theory.specs.Plans.{laidAt}
 use Rattle.theory.specs.Erasures.{fitting, smudgeFault}
@@ -25,12 +24,8 @@ numberOf (At p) = 0
 numberOf Nowhere = 9
 
 -- a place, if the window there is laid
-abbrev pub pickFit : Bool → Fit → Fit → Fit
-pickFit true a b = a
-pickFit false a b = b
-
 abbrev pub fitAt : List ℕ → ℕ → Fit
-fitAt s p = pickFit (laidAt s p) (At p) Nowhere
+fitAt s p = pick (laidAt s p) (At p) Nowhere
 
 -- one of some places; none, if there are none
 abbrev pub OneOf : List ℕ → Fit → Type 0

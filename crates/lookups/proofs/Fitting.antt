@@ -5,12 +5,13 @@ use Prim.Native.Nat.{ℕ, zero, suc, _<_, _^_}
 use native.Mathlib.Omega.{arith}
 use lib.Dec.{eqb}
 use lib.ListN.{length}
-use borrow.Author.Tests.{eqb-false, ne-eqb, not-true}
+use borrow.Author.Tests.{ne-eqb}
 use Rattle.theory.specs.Words.{firstOf, when}
 use Rattle.theory.specs.Lists.{In}
 use Rattle.theory.specs.Plans.{shades, marks, layingAt}
 use Rattle.theory.specs.Erasures.{fitting, smudgeFault, smudgedFault}
 use Rattle.theory.proofs.Faults.{first-some}
+use Rattle.theory.proofs.Laying.{laid-some}
 use Rattle.theory.proofs.Erasures.{fitting-in}
 use Rattle.shape.specs.declared.Strip as DS
 use Rattle.shape.proofs.Limits.{limits}
@@ -55,9 +56,7 @@ module _ {s : List ℕ} {x : DS.Strip} (a : Accepted s x) (w : List ℕ) where
       place-small = omega (arith, fitting-in s w fits .0, limits (a .shaped) .range, ap₂ _^_ (a .letters) (a .marked))
 
       pub laid-there : {l : ℕ} → l ≡ layingAt s p → LaidIn s p l
-      laid-there {l} g =
-          let some : ¬ (layingAt s p ≡ 0) = eqb-false (layingAt s p) 0 (not-true _ (fitting-in s w fits .1)) in
-          record { faultless = a .faultless; section = g; some = omega arith }
+      laid-there {l} g = let some = laid-some s p (fitting-in s w fits .1) in record { faultless = a .faultless; section = g; some = omega (arith, g, some) }
 
       pub picked : (t : List ℕ) {t′ : List ℕ} {q : ℕ} → Into 0 (answerAt s p) t t′ q → SmudgedSays s w t t′ q
       picked t g = rw (left ∙ ap numberOf e) (record { place = p; fits = fits; answer = g })

@@ -1,6 +1,6 @@
 -- The lookup in a plan: its faults in their order, what an accepted plan makes of the word, the place and the section, and the answer's bytes.
 use mathlib.Core.Path.{_≡_, sym, _∙_, ap, ap₂, subst}
-use mathlib.Core.Bool.{true, not}
+use mathlib.Core.Bool.{true}
 use mathlib.Core.List.{List, _++_}
 use Prim.Native.Nat.{ℕ, _-_, _≤_, _<_}
 use native.Mathlib.Omega.{arith}
@@ -10,7 +10,7 @@ use Rattle.theory.specs.Words.{firstOf, when}
 use Rattle.theory.specs.Strips.{placeOf, stripFault}
 use Rattle.theory.specs.Plans.{shades, marks, sections, sectionCount, nthS, planFault, wordFault, layingAt, laidAt, layingOf, lookupFault}
 use Rattle.theory.proofs.Faults.{first-some, first-none, word-fine}
-use Rattle.theory.proofs.Laying.{laid-at}
+use Rattle.theory.proofs.Laying.{some-laid, laid-at}
 use Rattle.buffers.specs.Buffers.{putBe}
 use Rattle.shape.specs.declared.Strip as DS
 use Rattle.shape.specs.Shapes.{WordOn}
@@ -78,7 +78,7 @@ module _ {s w : List ℕ} {x : DS.Strip} {p l : ℕ} (looked : Looked s w x p l)
 -- a window that is laid: its section, and the answer's bytes by the section's offset o
 module _ {s : List ℕ} {p l : ℕ} (h : LaidIn s p l) where
   laid : laidAt s p ≡ true
-  laid = ap not (ne-eqb (layingAt s p) 0 (λ z. omega (arith, h .section, h .some)))
+  laid = some-laid s p (λ z. omega (arith, h .section, h .some))
 
   pub section-inside : l - 1 < sectionCount s
   section-inside = subst (λ i. i - 1 < sectionCount s) (sym (h .section)) (laid-at s p (h .faultless) laid .0)

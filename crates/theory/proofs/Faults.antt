@@ -18,6 +18,14 @@ pub first-none : (a b : ℕ) → firstOf a b ≡ 0 → (a ≡ 0) × (b ≡ 0)
 first-none zero b h = (refl, h)
 first-none (suc a) b h = absurd (omega arith)
 
+pub first-assoc : (a b c : ℕ) → firstOf (firstOf a b) c ≡ firstOf a (firstOf b c)
+first-assoc zero b c = refl
+first-assoc (suc a) b c = refl
+
+pub first-zero : (a : ℕ) → firstOf a 0 ≡ a
+first-zero zero = refl
+first-zero (suc a) = refl
+
 -- what comes later counts only where nothing comes first
 pub first-then : (a : ℕ) {b c : ℕ} → (a ≡ 0 → b ≡ c) → firstOf a b ≡ firstOf a c
 first-then zero h = h refl

@@ -12,7 +12,7 @@ use lib.ListN.{length, drop}
 use borrow.Author.Tests.{leb-true, le-leb, lt-leb, eq-eqb, ne-eqb, eqb-false, not-true, not-false}
 use Rattle.theory.specs.Words.{firstOf, when, marksOk}
 use Rattle.theory.specs.Strips.{admitted, strip, window, placeOf}
-use Rattle.theory.specs.Plans.{Section, shades, marks, wordFault, sectionCount, sectionsFrom, sections, torn, straightFrom, planFault, holdsAt, layingFrom, nthS, layingAt, layingOf, distanceOf, lookupFault}
+use Rattle.theory.specs.Plans.{Section, shades, marks, wordFault, sectionCount, sectionsFrom, sections, torn, straightFrom, planFault, holdsAt, layingFrom, nthS, layingAt, laidAt, layingOf, distanceOf, lookupFault}
 use Rattle.theory.specs.Theorems.{Laid, Laid-only, Laid-at}
 use Rattle.theory.proofs.Base.{test, and-l, and-r, and-in, and-false}
 use Rattle.theory.proofs.Reading.{letters-length}
@@ -133,6 +133,13 @@ lookup-good s w h =
     let (word, looked) = first-none (wordFault (shades s) (marks s) w) _ rest in
     (good, word, looked)
 
+-- laid, so in some section; and the other way round
+pub laid-some : (s : List ℕ) (p : ℕ) → laidAt s p ≡ true → ¬ (layingAt s p ≡ 0)
+laid-some s p laid = eqb-false (layingAt s p) 0 (not-true _ laid)
+
+pub some-laid : (s : List ℕ) (p : ℕ) → ¬ (layingAt s p ≡ 0) → laidAt s p ≡ true
+some-laid s p some = ap not (ne-eqb (layingAt s p) 0 some)
+
 -- the section that a laid window is answered with, from its place p
 record Inside (s : List ℕ) (p : ℕ) (i : ℕ) : Type 0 where
   listed : i < length (sections s)
@@ -153,7 +160,7 @@ laid-only s w h =
 
 pub laid-at : Laid-at
 laid-at s p good laid =
-    let x = inside s p (eqb-false (layingAt s p) 0 (not-true _ laid)) in
+    let x = inside s p (laid-some s p laid) in
     let (_, _, straight) = plan-good s good in
     let y = straight-at (marks s) (shades s ^ marks s) 0 (sections s) (layingAt s p - 1) straight (x .listed) in
     (omega (arith, x .listed, sections-length (sectionCount s) (drop 4 s)), omega (arith, x .starts), omega (arith, x .ends, y .ends))
