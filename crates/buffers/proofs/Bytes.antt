@@ -1,30 +1,14 @@
--- Bytes over the start of a buffer, and that a number written is the number read.
-use mathlib.Core.Path.{_≡_, refl, sym, _∙_, ap, ap₂}
-use mathlib.Core.List.{List, [], _∷_, _++_, append-assoc, append-nil}
-use Prim.Native.Nat.{ℕ, zero, suc, _+_, _-_, _*_, _/_, _%_, _^_, _≤_, _<_}
+-- Bytes over the start of a buffer.
+use mathlib.Core.Path.{_≡_, sym, _∙_, ap, ap₂}
+use mathlib.Core.List.{List, [], _++_, append-assoc, append-nil}
+use Prim.Native.Nat.{ℕ, _+_, _-_, _≤_, _<_}
 use native.Mathlib.Omega.{arith}
-use native.Mathlib.Nat.{div-add-mod', div-lt-iff-lt-mul, pow-zero, pow-succ', zero-add}
+use native.Mathlib.Nat.{zero-add}
 use native.Mathlib.Numerals.{add-one}
 use lib.ListN.{length, getD, take, drop, set, length-append, length-take, length-drop, drop-of-length-le}
 use lib.Seq.{length-take-le, take-all, take-length, take-at, drop-at, drop-drop, paste, paste-suc}
 use borrow.Rule.Slice.PartMut.{putMid}
-use Rattle.theory.specs.Plans.{beFrom}
-use Rattle.buffers.specs.Buffers.{putBe, over}
-
-pub put-length : (n v : ℕ) → length (putBe n v) ≡ n
-put-length zero v = refl
-put-length (suc n) v = length-append (putBe n (v / 256)) (v % 256 ∷ []) ∙ omega (arith, put-length n (v / 256))
-
-be-append : (a : ℕ) (xs : List ℕ) (b : ℕ) → beFrom a (xs ++ (b ∷ [])) ≡ 256 * beFrom a xs + b
-be-append a [] b = refl
-be-append a (x ∷ xs) b = be-append (256 * a + x) xs b
-
--- a number below 256^n, written in n bytes and read again
-pub put-read : (n v : ℕ) → v < 256 ^ n → beFrom 0 (putBe n v) ≡ v
-put-read zero v h = omega (arith, pow-zero 256)
-put-read (suc n) v h =
-    let q : v / 256 < 256 ^ n = div-lt-iff-lt-mul {k = 256} {x = v} {y = 256 ^ n} (omega arith) .1 (omega (arith, pow-succ' 256 n)) in
-    be-append 0 (putBe n (v / 256)) (v % 256) ∙ omega (arith, put-read n (v / 256) q, div-add-mod' v 256)
+use Rattle.buffers.specs.Buffers.{over}
 
 -- one more byte of a copy, and the whole copy
 pub paste-next : (out src : List ℕ) (i : ℕ) (now : List ℕ) → now ≡ paste out 0 src i → i < length src → i < length out

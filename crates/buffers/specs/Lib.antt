@@ -1,2 +1,2 @@
--- Bytes at the start of a buffer, one byte from a place on, and numbers with the highest byte first.
+-- Bytes at the start of a buffer, and one byte from a place on.
 pub mod Buffers

@@ -1,9 +1,9 @@
-// Bytes copied to the start of a buffer that the caller lends, one byte up to its end, and numbers written with the highest byte first.
+// Bytes copied to the start of a buffer that the caller lends, and one byte up to its end.
 ghost use mathlib.Core.Path.{_≡_};
 ghost use Prim.Native.Nat.{_≤_};
 ghost use lib.ListN.{length};
 ghost use Rattle.theory.specs.Words.{turned};
-ghost use Rattle.buffers.specs.Buffers.{putBe, over, filled};
+ghost use Rattle.buffers.specs.Buffers.{over, filled};
 
 // The source, byte by byte.
 pub fn copy(src: &[u8], out: &mut [u8])
@@ -37,35 +37,4 @@ pub fn fill(out: &mut [u8], from: usize, b: u8)
         i -= 1;
         out[i] = b;
     }
-}
-
-// A number in 2 bytes.
-pub fn put16(v: u64, out: &mut [u8])
-    requires { ⌜ 2 ≤ length (now out) ⌝ }
-    ensures { λ _. ⌜ now (out .exit) ≡ over (putBe 2 v) (now (out .entry)) ⌝ }
-{
-    out[0] = (v / 256 % 256) as u8;
-    out[1] = (v % 256) as u8;
-}
-
-// A number in 8 bytes.
-pub fn put64(v: u64, out: &mut [u8])
-    requires { ⌜ 8 ≤ length (now out) ⌝ }
-    ensures { λ _. ⌜ now (out .exit) ≡ over (putBe 8 v) (now (out .entry)) ⌝ }
-{
-    let v6 = v / 256;
-    let v5 = v6 / 256;
-    let v4 = v5 / 256;
-    let v3 = v4 / 256;
-    let v2 = v3 / 256;
-    let v1 = v2 / 256;
-    let v0 = v1 / 256;
-    out[0] = (v0 % 256) as u8;
-    out[1] = (v1 % 256) as u8;
-    out[2] = (v2 % 256) as u8;
-    out[3] = (v3 % 256) as u8;
-    out[4] = (v4 % 256) as u8;
-    out[5] = (v5 % 256) as u8;
-    out[6] = (v6 % 256) as u8;
-    out[7] = (v % 256) as u8;
 }

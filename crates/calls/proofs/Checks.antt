@@ -1,6 +1,6 @@
 -- What the answer of a check says: the strip of k and n and no fault, or the fault's number; and how the answer is found.
 use mathlib.Core.Path.{_≡_, refl, sym, _∙_, ap, ap₂, subst}
-use mathlib.Core.Bool.{Bool, true, false, _||_, not, true≢false}
+use mathlib.Core.Bool.{Bool, true, false, not}
 use mathlib.Core.List.{List}
 use mathlib.Core.Logic.{inl, inr}
 use Prim.Native.Nat.{ℕ, _^_, _≤_, _<_}
@@ -22,11 +22,6 @@ use Rattle.calls.specs.declared.Checked.{Checked}
 use Rattle.calls.specs.declared.Checked.the-variants.{Strip, Refused}
 use Rattle.calls.specs.Refusals.{theWordFault, placeFault}
 use Rattle.calls.specs.Checks.{checkedBy, stripOf, Checks}
-
--- tests of which none holds
-pub or-false : (a b : Bool) → (a || b) ≡ false → (a ≡ false) × (b ≡ false)
-or-false true b h = absurd (true≢false h)
-or-false false b h = (refl, h)
 
 -- how the answer is found
 pub refused-with : (f k n : ℕ) {x : ℕ} → f ≡ x → ¬ (x ≡ 0) → Checks f k n (Refused x)

@@ -5,7 +5,8 @@ use Prim.Native.Nat.{ℕ}
 use lib.Dec.{eqb, ltb}
 use lib.ListN.{length}
 use Rattle.theory.specs.Words.{pick, firstOf, when}
-use Rattle.buffers.specs.Buffers.{putBe, over}
+use Rattle.buffers.specs.Buffers.{over}
+use Rattle.numbers.specs.Numbers.{putBe}
 use Rattle.calls.specs.declared.Value as DV
 
 -- an answer into a tray: its bytes, or the number with the tray as before

@@ -69,6 +69,6 @@ pub fn give(value: u64, tray: &mut [u8]) -> u8
     if tray.len() < NUMBER {
         return refusals::TRAY_TOO_SMALL;
     }
-    buffers::put64(value, tray);
+    numbers::put64(value, tray);
     0
 }

@@ -16,11 +16,11 @@ use Rattle.theory.proofs.Faults.{first-none, when-none, word-fine}
 use Rattle.theory.proofs.Laying as theory
 use Rattle.theory.proofs.Erasures.{fitting-in, in-fitting, fits-fine, fault-full, fitting-full}
 use Rattle.buffers.specs.Buffers.{over}
-use Rattle.buffers.proofs.Bytes.{put-read}
+use Rattle.numbers.proofs.Numbers.{put-read}
 use Rattle.shape.proofs.Limits.{admitted-limits}
 use Rattle.calls.specs.Answers.{Into}
 use Rattle.calls.proofs.Answers.{into-given}
-use Rattle.plans.proofs.Tests.{accepted-whole}
+use Rattle.sections.proofs.Whole.{accepted-whole}
 use Rattle.lookups.specs.Says.{answerAt, answerSize, LookupSays, SmudgedSays}
 use Rattle.demands.proofs.Trays.{into-fine, answered, answers, smudged-picked, smudged-refusal, smudged-answers}
 

@@ -19,8 +19,10 @@ use Rattle.theory.proofs.Necklaces.{smallest-length}
 use Rattle.theory.proofs.Reading.{letters-length}
 use Rattle.theory.proofs.Faults.{first-none, word-fine}
 use Rattle.shape.proofs.Limits.{admitted-limits}
-use Rattle.buffers.specs.Buffers.{putBe, over}
-use Rattle.buffers.proofs.Bytes.{put-read, over-length}
+use Rattle.buffers.specs.Buffers.{over}
+use Rattle.numbers.specs.Numbers.{putBe}
+use Rattle.buffers.proofs.Bytes.{over-length}
+use Rattle.numbers.proofs.Numbers.{put-read}
 use Rattle.calls.specs.declared.Value as DV
 use Rattle.calls.specs.Answers.{Into, Number, ValueIs}
 use Rattle.calls.specs.Refusals.{theWordFault, indexFault, placeFault}

@@ -17,7 +17,8 @@ use Rattle.theory.proofs.Ranks.{undone}
 use Rattle.theory.proofs.Turns.{word-laws}
 use Rattle.theory.proofs.Base.{test}
 use Rattle.shape.proofs.Limits.{admitted-limits}
-use Rattle.buffers.specs.Buffers.{putBe, over}
+use Rattle.buffers.specs.Buffers.{over}
+use Rattle.numbers.specs.Numbers.{putBe}
 use Rattle.calls.specs.declared.Value as DV
 use Rattle.calls.specs.Refusals.{theWordFault, indexFault}
 use Rattle.words.specs.Says.{LyndonSays, RotationSays, RootSays, ManySays, RankSays, WordSays}

@@ -12,7 +12,8 @@ use Rattle.theory.specs.Strips.{admitted, strip, markAt, marksFrom, window, pla
 use Rattle.theory.specs.Plans.{be, shades, marks, sectionCount, sections, nthS, planFault, layingAt, laidAt}
 use Rattle.theory.specs.Erasures.{unread, agrees}
 use Rattle.theory.specs.Theorems.{Theorems}
-use Rattle.buffers.specs.Buffers.{putBe, over}
+use Rattle.buffers.specs.Buffers.{over}
+use Rattle.numbers.specs.Numbers.{putBe}
 use Rattle.calls.specs.declared.Value as DV
 use Rattle.calls.specs.Answers.{ValueIs}
 use Rattle.words.specs.Says.{LyndonSays, RotationSays, RootSays, ManySays, RankSays, WordSays}

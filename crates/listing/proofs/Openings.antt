@@ -3,29 +3,24 @@ use mathlib.Core.Path.{_≡_, sym, _∙_, ap, ap₂}
 use mathlib.Core.List.{List, _++_}
 use Prim.Native.Nat.{ℕ, _^_, _<_}
 use native.Mathlib.Omega.{arith}
-use lib.ListN.{length, drop}
 use borrow.Author.Tests.{eq-eqb, ne-eqb}
 use Rattle.theory.specs.Words.{pick}
 use Rattle.theory.specs.Plans.{shades, marks, sectionCount, sections, nthS, planFault}
-use Rattle.theory.proofs.Laying.{plan-good, sections-length, straight-at}
+use Rattle.theory.proofs.Laying.{plan-good, sections-count, straight-at}
 use Rattle.shape.specs.declared.Strip as DS
 use Rattle.shape.proofs.Limits.{limits}
 use Rattle.calls.specs.declared.Checked.{Checked}
 use Rattle.calls.specs.declared.Checked.the-variants.{Refused}
 use Rattle.calls.proofs.Checks.{refused-by}
-use Rattle.plans.specs.declared.Section as DX
 use Rattle.plans.specs.Opened.{Opens, Accepted}
-use Rattle.listing.specs.Listings.{stripLine, sectionLines, refusedLine, listing, sectionOf}
-
-pub counted : (s : List ℕ) → length (sections s) ≡ sectionCount s
-counted s = sections-length (sectionCount s) (drop 4 s)
+use Rattle.listing.specs.Listings.{stripLine, sectionLines, refusedLine, listing}
 
 -- an accepted plan, with the strip that it is laid on
 module _ (s : List ℕ) {x : DS.Strip} (plan : Accepted s x) where
   pub section-starts : (i : ℕ) → i < sectionCount s → nthS (sections s) i .offset < x .size
   section-starts i h =
       let (_, _, straight) = plan-good s (plan .faultless) in
-      let y = straight-at (marks s) (shades s ^ marks s) 0 (sections s) i straight (omega (arith, counted s)) in
+      let y = straight-at (marks s) (shades s ^ marks s) 0 (sections s) i straight (omega (arith, sections-count s)) in
       let size : x .size ≡ shades s ^ marks s = plan .shaped .size ∙ ap₂ _^_ (plan .letters) (plan .marked) in
       omega (arith, y .ends, y .wide, plan .marked, limits (plan .shaped) .some, size)
 
@@ -33,10 +28,6 @@ module _ (s : List ℕ) {x : DS.Strip} (plan : Accepted s x) where
   accepted-text =
       let lines : ℕ → ℕ → List ℕ = λ k n. stripLine k n ++ sectionLines k n 0 (sections s) in
       ap₂ lines (plan .letters) (plan .marked) ∙ sym (ap (λ b. pick b (lines (shades s) (marks s)) (refusedLine (planFault s))) (eq-eqb _ _ (plan .faultless)))
-
--- a section that was read
-pub section-is : (s : List ℕ) (i : ℕ) {y : DX.Section} → (y .offset ≡ nthS (sections s) i .offset) × (y .long ≡ nthS (sections s) i .long) → sectionOf y ≡ nthS (sections s) i
-section-is s i e = ap₂ (λ o m. record { offset = o; long = m }) (e .0) (e .1)
 
 -- a refused plan
 pub refused-text : (s : List ℕ) {c : Checked} {f : ℕ} → Opens s c → c ≡ Refused f → refusedLine f ≡ listing s

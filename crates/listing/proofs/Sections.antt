@@ -9,7 +9,7 @@ use lib.ListN.{length, take}
 use lib.Seq.{length-take-le, take-all, take-suc}
 use Rattle.theory.specs.Words.{marksOk}
 use Rattle.theory.specs.Strips.{strip, marksFrom, window}
-use Rattle.theory.specs.Plans.{Section, nthS}
+use Rattle.theory.specs.Plans.{Section, noSection, nthS}
 use Rattle.theory.proofs.Letters.{marks-in, in-marks}
 use Rattle.theory.proofs.Reading.{letters-length}
 use Rattle.theory.proofs.Rings.{window-marks}
@@ -57,10 +57,9 @@ lines-behind k n i (x ∷ xs) y =
 
 lines-next : (k n i : ℕ) (xs : List Section) → i < length xs → sectionLines k n 0 (take i xs) ++ sectionLine k n i (nthS xs i) ≡ sectionLines k n 0 (take (i + 1) xs)
 lines-next k n i xs h =
-    let none : Section = record { offset = 0; long = 0 } in
     let e : 0 + length (take i xs) ≡ i = omega (arith, length-take-le i xs (omega arith)) in
     sym (ap (λ j. sectionLines k n 0 (take j xs)) (add-one i)
-    ∙ ap (sectionLines k n 0) (take-suc xs i none h)
+    ∙ ap (sectionLines k n 0) (take-suc xs i noSection h)
     ∙ lines-behind k n 0 (take i xs) (nthS xs i)
     ∙ ap (λ j. sectionLines k n 0 (take i xs) ++ sectionLine k n j (nthS xs i)) e)
 

@@ -6,7 +6,6 @@ use Rattle.theory.specs.Words.{pick}
 use Rattle.theory.specs.Strips.{window}
 use Rattle.theory.specs.Plans.{Section, shades, marks, sections, planFault}
 use Rattle.texts.specs.Texts.{decimal, glyphs}
-use Rattle.plans.specs.declared.Section as DX
 
 -- a line: its fields parted by a space (byte 32), then byte 10
 abbrev pub fields : List ℕ → List (List ℕ) → List ℕ
@@ -47,7 +46,3 @@ line = 128
 
 abbrev pub most : ℕ
 most = 501 * line
-
--- the numbers of a section as they were read from a plan
-abbrev pub sectionOf : DX.Section → Section
-sectionOf x = record { offset = x .offset; long = x .long }

@@ -4,10 +4,11 @@ ghost use lib.ListN.{length};
 ghost use Rattle.theory.specs.Plans.{sections};
 ghost use Rattle.shape.specs.Shapes.{Shaped};
 ghost use Rattle.texts.specs.Texts.{Adds};
+ghost use Rattle.sections.specs.Read.{sectionOf};
 ghost use Rattle.plans.specs.Opened.{Accepted};
-ghost use Rattle.listing.specs.Listings.{line, most, stripLine, sectionLine, sectionLines, refusedLine, listing, sectionOf};
+ghost use Rattle.listing.specs.Listings.{line, most, stripLine, sectionLine, sectionLines, refusedLine, listing};
 use calls::Checked;
-use plans::Section;
+use sections::Section;
 use shape::Strip;
 
 // Bytes that hold any line.
@@ -56,11 +57,11 @@ fn put_sections(plan: &[u8], s: Strip, out: &mut [u8], at: usize) -> usize
     requires { ⌜ Accepted (now plan) s × (at ≤ line) × (most ≤ length (now out)) ⌝ }
     ensures { λ r. ⌜ Adds (now (out .entry)) at (sectionLines (s .k) (s .n) 0 (sections (now (plan .entry)))) (now (out .exit)) r ⌝ }
 {
-    let count = plans::count(plan);
+    let count = sections::count(plan);
     let mut filled = at;
     let mut i = 0;
     while i < count {
-        filled = put_section(s, i, plans::section_at(plan, i), out, filled);
+        filled = put_section(s, i, sections::section_at(plan, i), out, filled);
         i += 1;
     }
     filled

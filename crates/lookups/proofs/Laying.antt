@@ -11,7 +11,7 @@ use Rattle.theory.specs.Strips.{placeOf, stripFault}
 use Rattle.theory.specs.Plans.{shades, marks, sections, sectionCount, nthS, planFault, wordFault, layingAt, laidAt, layingOf, lookupFault}
 use Rattle.theory.proofs.Faults.{first-some, first-none, word-fine}
 use Rattle.theory.proofs.Laying.{some-laid, laid-at}
-use Rattle.buffers.specs.Buffers.{putBe}
+use Rattle.numbers.specs.Numbers.{putBe}
 use Rattle.shape.specs.declared.Strip as DS
 use Rattle.shape.specs.Shapes.{WordOn}
 use Rattle.calls.specs.declared.Checked.{Checked}

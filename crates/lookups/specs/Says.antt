@@ -8,7 +8,7 @@ use Rattle.theory.specs.Lists.{In}
 use Rattle.theory.specs.Strips.{placeOf}
 use Rattle.theory.specs.Plans.{shades, marks, planFault, layingAt, distanceAt, lookupFault}
 use Rattle.theory.specs.Erasures.{fitting, smudgedFault}
-use Rattle.buffers.specs.Buffers.{putBe}
+use Rattle.numbers.specs.Numbers.{putBe}
 use Rattle.calls.specs.Answers.{Into}
 
 -- a plan: its fault, or 0

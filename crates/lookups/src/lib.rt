@@ -22,9 +22,9 @@ fn give(plan: &[u8], place: u64, laying: u64, tray: &mut [u8]) -> u8
         return refusals::TRAY_TOO_SMALL;
     }
     let section = laying - 1;
-    let distance = place - plans::section_at(plan, section).offset;
-    buffers::put16(section, tray);
-    buffers::put64(distance, &mut tray[SECTION..]);
+    let distance = place - sections::section_at(plan, section).offset;
+    numbers::put16(section, tray);
+    numbers::put64(distance, &mut tray[SECTION..]);
     0
 }
 

@@ -1,76 +1,94 @@
--- The section of a place: the sections are tried one after another, each read at its pair; and where each of an accepted plan ends.
-use mathlib.Core.Path.{_≡_, refl, sym, _∙_, ap, ap₂}
-use mathlib.Core.Bool.{true, false}
+-- The section of a place: sections are sorted, so bisection finds how many begin at the place or before it; only the last of these can hold the window.
+use mathlib.Core.Path.{_≡_, refl, sym, _∙_, ap}
+use mathlib.Core.Bool.{true}
 use mathlib.Core.List.{List}
-use Prim.Native.Nat.{ℕ, _+_, _-_, _*_, _^_, _≤_, _<_}
+use Prim.Native.Nat.{ℕ, suc, _+_, _-_, _^_, _≤_, _<_}
 use native.Mathlib.Omega.{arith}
-use native.Mathlib.Numerals.{add-one}
-use lib.Dec.{leb}
-use lib.ListN.{length, take, drop, drop-of-length-le}
-use lib.Seq.{drop-cons}
-use borrow.Author.Tests.{le-leb, lt-leb}
-use Rattle.theory.specs.Plans.{Section, beFrom, shades, marks, sectionCount, sections, planFault, holdsAt, layingFrom, nthS}
-use Rattle.theory.proofs.Base.{and-in, and-false}
-use Rattle.theory.proofs.Laying.{plan-good, sections-length, straight-at}
+use lib.ListN.{length}
+use Rattle.theory.specs.Plans.{Section, shades, marks, sectionCount, sections, straightFrom, planFault, layingAt, nthS}
+use Rattle.theory.proofs.Base.{less, equal, more, cmp}
+use Rattle.theory.proofs.Rings.{admitted-range}
+use Rattle.theory.proofs.Laying.{plan-good, sections-count, straight-at, straight-apart, laying-at, unlaid}
 use Rattle.shape.proofs.Limits.{limits}
-use Rattle.plans.proofs.Pairs.{pairAt, pair-drop, pair-at}
+use Rattle.sections.proofs.Whole.{accepted-whole}
+use Rattle.plans.specs.Begun.{Between, Begun}
 
--- section i is the pair at byte 4 + 16 * i
-section-pair : (s : List ℕ) (i : ℕ) → i < sectionCount s → nthS (sections s) i ≡ pairAt (4 + 16 * i) s
-section-pair s i h = pair-at (sectionCount s) (drop 4 s) i h ∙ pair-drop (16 * i) 4 s
+-- sections of an accepted plan
+module _ (s : List ℕ) (good : planFault s ≡ 0) where
+  abbrev top : ℕ
+  top = shades s ^ marks s
 
--- the sections of an accepted plan end within the strip
-section-ends : (s : List ℕ) (i : ℕ) → planFault s ≡ 0 → i < sectionCount s → nthS (sections s) i .offset + nthS (sections s) i .long ≤ 2 ^ 60
-section-ends s i good h =
-    let (_, fit, straight) = plan-good s good in
-    let c : i < length (sections s) = omega (arith, sections-length (sectionCount s) (drop 4 s)) in
-    let x = straight-at (marks s) (shades s ^ marks s) 0 (sections s) i straight c in
-    let l = limits {s = record { k = shades s; n = marks s; size = shades s ^ marks s }} (record { admit = fit; size = refl }) in
-    omega (arith, l .range, x .ends)
+  straight : straightFrom (marks s) top 0 (sections s) ≡ true
+  straight = plan-good s good .2
 
--- the search, from section i on
-search-on : (p n i : ℕ) (xs : List Section) → i < length xs → holdsAt p n (nthS xs i) ≡ false → layingFrom i p n (drop i xs) ≡ layingFrom (i + 1) p n (drop (i + 1) xs)
-search-on p n i xs h t = rw (drop-cons xs i (record { offset = 0; long = 0 }) h, t, layingFrom, add-one i)
+  wide : 1 ≤ marks s
+  wide = admitted-range (shades s) (marks s) (plan-good s good .1) .1
 
-pub none-left : (p n i : ℕ) (s : List ℕ) → sectionCount s ≤ i → layingFrom i p n (drop i (sections s)) ≡ 0
-none-left p n i s h =
-    let e : length (sections s) ≤ i = omega (arith, sections-length (sectionCount s) (drop 4 s)) in
-    rw (drop-of-length-le (sections s) e)
+  apart : (i j : ℕ) → i < j → j < length (sections s) → nthS (sections s) i .offset + nthS (sections s) i .long ≤ nthS (sections s) j .offset
+  apart i j h l = straight-apart (marks s) top 0 (sections s) i j straight h l
 
--- section i's pair begins at a byte, and o and l are read there
-pub record Pair (s : List ℕ) (i at o l : ℕ) : Type 0 where
-  pub inside : i < sectionCount s
-  pub begins : at ≡ 4 + 16 * i
-  pub first : o ≡ beFrom 0 (take (at + 8 - at) (drop at s))
-  pub second : l ≡ beFrom 0 (take (at + 16 - (at + 8)) (drop (at + 8) s))
+  sorted : (i j : ℕ) → i ≤ j → j < length (sections s) → nthS (sections s) i .offset ≤ nthS (sections s) j .offset
+  sorted i j h l =
+      elim (cmp i j) [ less g ↦ omega (arith, apart i j g l) | equal g ↦ omega (arith, ap (λ m. nthS (sections s) m .offset) g) | more g ↦ absurd (omega arith) ]
 
-module _ {s : List ℕ} {i at o l : ℕ} (pair : Pair s i at o l) where
-  pub offset-is : o ≡ nthS (sections s) i .offset
-  offset-is =
-      let e : at + 8 - at ≡ 8 = omega arith in
-      pair .first ∙ ap₂ (λ m j. beFrom 0 (take m (drop j s))) e (pair .begins) ∙ sym (ap (λ x. x .offset) (section-pair s i (pair .inside)))
+  -- they end within the strip
+  section-ends : (i : ℕ) → i < length (sections s) → nthS (sections s) i .offset + nthS (sections s) i .long ≤ 2 ^ 60
+  section-ends i h =
+      let x = straight-at (marks s) top 0 (sections s) i straight h in
+      let l = limits {s = record { k = shades s; n = marks s; size = top }} (record { admit = plan-good s good .1; size = refl }) in
+      omega (arith, l .range, x .ends)
 
-  pub long-is : l ≡ nthS (sections s) i .long
-  long-is =
-      let e : at + 16 - (at + 8) ≡ 8 = omega arith in
-      pair .second ∙ ap₂ (λ m j. beFrom 0 (take m (drop (j + 8) s))) e (pair .begins) ∙ sym (ap (λ x. x .long) (section-pair s i (pair .inside)))
+  -- what bisection knows of a place p
+  module _ (p : ℕ) where
+    pub anywhere : Between p (sections s) 0 (sectionCount s)
+    anywhere = record { ordered = omega arith; within = omega (arith, sections-count s); before = λ i h. absurd (omega arith); behind = λ i h l. absurd (omega (arith, sections-count s)) }
 
-  pub ends-fit : planFault s ≡ 0 → o + l ≤ 2 ^ 60
-  ends-fit good = omega (arith, offset-is, long-is, section-ends s i good (pair .inside))
+    pub few : {low high : ℕ} → Between p (sections s) low high → high ≤ 500
+    few between = omega (arith, between .within, sections-count s, accepted-whole s good .few)
 
-  -- whether the section holds the window at p
-  module _ (p n : ℕ) where
-    listed : i < length (sections s)
-    listed = omega (arith, sections-length (sectionCount s) (drop 4 s), pair .inside)
+    module _ {low high : ℕ} (between : Between p (sections s) low high) (m : ℕ) (from : low ≤ m) (below : m < high) where
+      pub raise : nthS (sections s) m .offset ≤ p → Between p (sections s) (m + 1) high
+      raise h =
+          record {
+            ordered = omega arith;
+            within = between .within;
+            before = λ i l. omega (arith, sorted i m (omega arith) (omega (arith, between .within)));
+            behind = between .behind;
+          }
 
-    pub held : o ≤ p → p + n ≤ o + l → layingFrom i p n (drop i (sections s)) ≡ i + 1
-    held h g =
-        let t : holdsAt p n (nthS (sections s) i) ≡ true = rw (← offset-is, ← long-is) (and-in (le-leb o p h) (le-leb (p + n) (o + l) g)) in
-        rw (drop-cons (sections s) i (record { offset = 0; long = 0 }) listed, t, layingFrom) (sym (add-one i))
+      pub lower : p < nthS (sections s) m .offset → Between p (sections s) low m
+      lower h =
+          record {
+            ordered = from;
+            within = omega (arith, between .within);
+            before = between .before;
+            behind = λ i l b. omega (arith, sorted m i l b);
+          }
 
-    pub behind : p < o → layingFrom i p n (drop i (sections s)) ≡ layingFrom (i + 1) p n (drop (i + 1) (sections s))
-    behind h = search-on p n i (sections s) listed (rw (← offset-is, lt-leb o p h))
+    -- the window at p
+    pub nowhere : Begun p (sections s) 0 → layingAt s p ≡ 0
+    nowhere b = unlaid 0 p (marks s) (sections s) (λ i l h. absurd (omega (arith, b .behind i (omega arith) l)))
 
-    pub past : o + l < p + n → layingFrom i p n (drop i (sections s)) ≡ layingFrom (i + 1) p n (drop (i + 1) (sections s))
-    past h =
-        search-on p n i (sections s) listed (rw (← offset-is, ← long-is) (and-false (leb o p) _ (lt-leb (p + n) (o + l) h)))
+    -- r sections begin at p or before it, and x is the last of them
+    module _ {r : ℕ} {x : Section} (begun : Begun p (sections s) r) (some : 1 ≤ r) (is : x ≡ nthS (sections s) (r - 1)) where
+      ends : nthS (sections s) (r - 1) .offset + nthS (sections s) (r - 1) .long ≡ x .offset + x .long
+      ends = ap (λ y. y .offset + y .long) (sym is)
+
+      pub ends-fit : x .offset + x .long ≤ 2 ^ 60
+      ends-fit = omega (arith, ends, section-ends (r - 1) (omega (arith, begun .within)))
+
+      pub held : p + marks s ≤ x .offset + x .long → layingAt s p ≡ r
+      held h =
+          let e : suc (0 + (r - 1)) ≡ r = omega arith in
+          laying-at (marks s) top 0 (sections s) (r - 1) 0 p wide straight (omega (arith, begun .within)) (begun .before (r - 1) (omega arith)) (omega (arith, ends)) ∙ e
+
+      pub beyond : x .offset + x .long < p + marks s → layingAt s p ≡ 0
+      beyond h = unlaid 0 p (marks s) (sections s) none
+        where
+          none : (j : ℕ) → j < length (sections s) → nthS (sections s) j .offset ≤ p → nthS (sections s) j .offset + nthS (sections s) j .long < p + marks s
+          none j l g =
+              elim (cmp j (r - 1)) [
+                | less a ↦ omega (arith, apart j (r - 1) a (omega (arith, begun .within)), begun .before (r - 1) (omega arith), wide)
+                | equal a ↦ omega (arith, ap (λ m. nthS (sections s) m .offset + nthS (sections s) m .long) a, ends)
+                | more a ↦ absurd (omega (arith, begun .behind j (omega arith) l))
+              ]

@@ -1,2 +1,3 @@
--- What opening a plan answers.
+-- What opening a plan answers, and where a place stands among its sections.
 pub mod Opened
+pub mod Begun

@@ -9,7 +9,7 @@ use native.Mathlib.Omega.{arith}
 use native.Mathlib.Nat.{add-zero, add-suc, suc-add, zero-add}
 use lib.Dec.{eqb, leb}
 use lib.ListN.{length, drop}
-use borrow.Author.Tests.{leb-true, le-leb, lt-leb, eq-eqb, ne-eqb, eqb-false, not-true, not-false}
+use borrow.Author.Tests.{leb-true, le-leb, lt-leb, eq-eqb, ne-eqb, eqb-true, eqb-false, not-true, not-false}
 use Rattle.theory.specs.Words.{firstOf, when, marksOk}
 use Rattle.theory.specs.Strips.{admitted, strip, window, placeOf}
 use Rattle.theory.specs.Plans.{Section, shades, marks, wordFault, sectionCount, sectionsFrom, sections, torn, straightFrom, planFault, holdsAt, layingFrom, nthS, layingAt, laidAt, layingOf, distanceOf, lookupFault}
@@ -27,9 +27,12 @@ plan-good s h =
     (when-none (torn s) 7 (λ z. omega arith) a, not-false _ (when-none _ 1 (λ z. omega arith) c), not-false _ (when-none _ 8 (λ z. omega arith) d))
 
 -- sections
-pub sections-length : (m : ℕ) (s : List ℕ) → length (sectionsFrom m s) ≡ m
+sections-length : (m : ℕ) (s : List ℕ) → length (sectionsFrom m s) ≡ m
 sections-length zero s = refl
 sections-length (suc m) s = ap suc (sections-length m (drop 16 s))
+
+pub sections-count : (s : List ℕ) → length (sections s) ≡ sectionCount s
+sections-count s = sections-length (sectionCount s) (drop 4 s)
 
 -- what holds of the first of straight sections
 pub record Straight (n top end : ℕ) (x : Section) : Type 0 where
@@ -52,6 +55,15 @@ straight-at n top end (x ∷ xs) (suc i) h b =
     let (f, g) = straight-first n top end x xs h in
     let r = straight-at n top (x .offset + x .long) xs i g (omega arith) in
     record { starts = omega arith; wide = r .wide; ends = r .ends }
+
+-- each section ends before any later one begins, or where it begins
+pub straight-apart : (n top end : ℕ) (xs : List Section) (i j : ℕ) → straightFrom n top end xs ≡ true → i < j → j < length xs
+    → nthS xs i .offset + nthS xs i .long ≤ nthS xs j .offset
+straight-apart n top end [] i j h l b = absurd (omega arith)
+straight-apart n top end (x ∷ xs) i zero h l b = absurd (omega arith)
+straight-apart n top end (x ∷ xs) zero (suc j) h l b = straight-at n top (x .offset + x .long) xs j (straight-first n top end x xs h .1) (omega arith) .starts
+straight-apart n top end (x ∷ xs) (suc i) (suc j) h l b =
+    straight-apart n top (x .offset + x .long) xs i j (straight-first n top end x xs h .1) (omega arith) (omega arith)
 
 -- sections do not overlap, so the first that holds a window is the only one
 pub laying-at : (n top end : ℕ) (xs : List Section) (i j p : ℕ) → 1 ≤ n → straightFrom n top end xs ≡ true → i < length xs
@@ -91,7 +103,7 @@ laid s i d good b h =
     let (two, one) = admitted-range (shades s) (marks s) fit in
     let p = nthS (sections s) i .offset + d in
     let w = window (shades s) (marks s) p in
-    let c : i < length (sections s) = omega (arith, sections-length (sectionCount s) (drop 4 s)) in
+    let c : i < length (sections s) = omega (arith, sections-count s) in
     let x = straight-at (marks s) (shades s ^ marks s) 0 (sections s) i straight c in
     let place = one-place .only (shades s) (marks s) p w two one (omega arith) refl in
     let laying = laying-at (marks s) (shades s ^ marks s) 0 (sections s) i 0 p one straight c (omega arith) (omega arith) ∙ ap suc (zero-add i) in
@@ -126,6 +138,13 @@ laying-found j p n (x ∷ xs) h = elim (test (holdsAt p n x)) [ inl t ↦ first 
         let on : layingFrom j p n (x ∷ xs) ≡ layingFrom (suc j) p n xs = rw (t, layingFrom) refl in
         record { index = suc (f .index); inside = omega (arith, f .inside); is = on ∙ f .is ∙ ap suc (suc-add j (f .index) ∙ sym (add-suc j (f .index))); starts = f .starts; ends = f .ends }
 
+-- no section holds the window
+pub unlaid : (j p n : ℕ) (xs : List Section) → ((i : ℕ) → i < length xs → nthS xs i .offset ≤ p → nthS xs i .offset + nthS xs i .long < p + n) → layingFrom j p n xs ≡ 0
+unlaid j p n xs none = elim (test (eqb (layingFrom j p n xs) 0)) [ inl t ↦ eqb-true _ _ t | inr t ↦ absurd (never (laying-found j p n xs (eqb-false _ _ t))) ]
+  where
+    never : Found j p n xs → ⊥
+    never f = let late = none (f .index) (f .inside) (f .starts) in omega (arith, f .ends)
+
 -- no fault, so the plan and the word have none, and a section was found
 pub lookup-good : (s w : List ℕ) → lookupFault s w ≡ 0 → (planFault s ≡ 0) × (wordFault (shades s) (marks s) w ≡ 0) × (when (eqb (layingOf s w) 0) 9 ≡ 0)
 lookup-good s w h =
@@ -156,11 +175,11 @@ pub laid-only : Laid-only
 laid-only s w h =
     let (_, _, looked) = lookup-good s w h in
     let x = inside s (placeOf (shades s) (marks s) w) (eqb-false (layingOf s w) 0 (when-none (eqb (layingOf s w) 0) 9 (λ z. omega arith) looked)) in
-    (omega (arith, x .listed, sections-length (sectionCount s) (drop 4 s)), omega (arith, x .starts), omega (arith, x .starts, x .ends))
+    (omega (arith, x .listed, sections-count s), omega (arith, x .starts), omega (arith, x .starts, x .ends))
 
 pub laid-at : Laid-at
 laid-at s p good laid =
     let x = inside s p (laid-some s p laid) in
     let (_, _, straight) = plan-good s good in
     let y = straight-at (marks s) (shades s ^ marks s) 0 (sections s) (layingAt s p - 1) straight (x .listed) in
-    (omega (arith, x .listed, sections-length (sectionCount s) (drop 4 s)), omega (arith, x .starts), omega (arith, x .ends, y .ends))
+    (omega (arith, x .listed, sections-count s), omega (arith, x .starts), omega (arith, x .ends, y .ends))

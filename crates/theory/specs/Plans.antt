@@ -59,8 +59,12 @@ abbrev pub layingFrom : ℕ → ℕ → ℕ → List Section → ℕ
 layingFrom i p n [] = 0
 layingFrom i p n (x ∷ xs) = elim (holdsAt p n x) [ true ↦ suc i | false ↦ layingFrom (suc i) p n xs ]
 
+-- what stands behind the last section
+abbrev pub noSection : Section
+noSection = record { offset = 0; long = 0 }
+
 abbrev pub nthS : List Section → ℕ → Section
-nthS xs i = getD xs i (record { offset = 0; long = 0 })
+nthS xs i = getD xs i noSection
 
 -- of the window at a place: the number of the section that it is laid in, plus 1, or 0; whether it is laid; its distance from the section's start
 abbrev pub layingAt : List ℕ → ℕ → ℕ

@@ -7,6 +7,7 @@ use lib.Dec.{eqb, ltb}
 use lib.ListN.{length}
 use borrow.Author.Tests.{eq-eqb, ne-eqb, lt-ltb, le-ltb, eqb-false, ltb-false}
 use Rattle.theory.specs.Words.{when, howMany, wordOf}
+use Rattle.theory.proofs.Base.{or-false}
 use Rattle.theory.proofs.Ranks.{undone}
 use Rattle.theory.proofs.Faults.{first-none, when-none}
 use Rattle.shape.specs.declared.Strip as DS
@@ -15,7 +16,7 @@ use Rattle.calls.specs.declared.Checked.the-variants.{Strip}
 use Rattle.theory.specs.Strips.{stripFault}
 use Rattle.calls.specs.Refusals.{indexFault}
 use Rattle.calls.specs.Checks.{Checks}
-use Rattle.calls.proofs.Checks.{or-false, passed, StripIs, strip-is}
+use Rattle.calls.proofs.Checks.{passed, StripIs, strip-is}
 
 module _ (k n i : ℕ) where
   pub index-zero : i ≡ 0 → when (eqb i 0 || ltb (howMany k n) i) 5 ≡ 5

@@ -1,10 +1,12 @@
 -- `listing::put_sections`: a line for each section. Invariant: the lines of the first i sections stand there.
 use Prim.Native.Nat.{_-_, _≤_, _<_}
+use mathlib.Core.Path.{ap}
 use native.Mathlib.Omega.{arith}
 use Rattle.theory.specs.Plans.{sectionCount, sections}
-use Rattle.plans.proofs.Tests.{accepted-whole}
+use Rattle.theory.proofs.Laying.{plan-good, sections-count}
+use Rattle.sections.proofs.Whole.{accepted-whole}
 use Rattle.listing.proofs.Building.{nothing}
-use Rattle.listing.proofs.Openings.{counted, section-starts, section-is}
+use Rattle.listing.proofs.Openings.{section-starts}
 use Rattle.listing.proofs.Sections.{Lines, line-room, one-more, all-lines}
 use Rattle.listing.proofs.put_sections.Statement.{statement}
 use Rattle.listing.proofs.put_sections.Tie as tie
@@ -16,7 +18,7 @@ abbrev μ-loop : tie.MeasureT-loop
 μ-loop plan s out₀ at count filled₀ i₀ out filled i = count - i
 
 count-requires : tie.Need-count-requires Inv-loop μ-loop
-count-requires c κs = c .before .before .pre .0 .faultless
+count-requires c κs = plan-good (c .before .before .args .plan .now) (c .before .before .pre .0 .faultless) .0
 
 loop-holds : tie.Need-loop-holds Inv-loop μ-loop
 loop-holds c = (omega arith, record { written = nothing _ _ })
@@ -29,7 +31,7 @@ inside : (c : tie.In-loop Inv-loop μ-loop) → c .before .loop .i < sectionCoun
 inside c = omega (arith, c .loop-test .taken, c .before .before .count .ensures)
 
 section-at-requires : tie.Need-section-at-requires Inv-loop μ-loop
-section-at-requires c κs = (start c .pre .0 .faultless, omega (arith, inside c))
+section-at-requires c κs = (plan-good (start c .args .plan .now) (start c .pre .0 .faultless) .0, omega (arith, inside c))
 
 put-section-requires : tie.Need-put-section-requires Inv-loop μ-loop
 put-section-requires c κs =
@@ -39,7 +41,7 @@ put-section-requires c κs =
     let few = accepted-whole plan (f .pre .0 .faultless) .few in
     let begins = section-starts plan (f .pre .0) _ (section-at-requires at κs .1) in (
       f .pre .0 .shaped,
-      omega (arith, c .before .section-at .ensures .0, begins),
+      omega (arith, ap (λ x. x .offset) (c .before .section-at .ensures), begins),
       line-room (at .before .loop .inv .1) (f .pre .1) (omega (arith, few, inside at)) (f .pre .2),
     )
 
@@ -54,10 +56,9 @@ loop-again c =
     let put = c .before .before in
     let read = put .before .before in
     let at = read .before in
-    let plan = start at .args .plan .now in
-    let section = section-is plan (at .before .loop .i) (read .section-at .ensures) in (
+    let plan = start at .args .plan .now in (
       omega arith,
-      one-more (at .before .loop .inv .1) (put .put-section .ensures .0) (put .put-section .ensures .1) (put .put-section .kept .1 .1 .1 .0) section (omega (arith, inside at, counted plan)),
+      one-more (at .before .loop .inv .1) (put .put-section .ensures .0) (put .put-section .ensures .1) (put .put-section .kept .1 .1 .1 .0) (read .section-at .ensures) (omega (arith, inside at, sections-count plan)),
     )
 
 same-length : tie.Need-same-length Inv-loop μ-loop
@@ -66,7 +67,7 @@ same-length c = c .before .loop .inv .1 .written .whole
 returns : tie.Need-returns Inv-loop μ-loop
 returns c =
     let plan = c .before .before .before .before .before .args .plan .now in
-    all-lines (c .before .loop .inv .1) (omega (arith, counted plan, c .loop-test .left, c .before .before .count .ensures))
+    all-lines (c .before .loop .inv .1) (omega (arith, sections-count plan, c .loop-test .left, c .before .before .count .ensures))
 
 pub put-sections-spec : {M : Type 1} → statement M
 put-sections-spec =

@@ -3,8 +3,11 @@ use mathlib.Core.Path.{refl, _∙_, ap}
 use Prim.Native.Nat.{_-_}
 use native.Mathlib.Omega.{arith}
 use borrow.Author.Needs.{needs}
-use Rattle.buffers.specs.Buffers.{putBe, over}
-use Rattle.buffers.proofs.Bytes.{handed-on, put-length}
+use Rattle.theory.proofs.Laying.{plan-good}
+use Rattle.buffers.specs.Buffers.{over}
+use Rattle.numbers.specs.Numbers.{putBe}
+use Rattle.buffers.proofs.Bytes.{handed-on}
+use Rattle.numbers.proofs.Numbers.{put-length}
 use Rattle.calls.proofs.Answers.{into-small, into-answer}
 use Rattle.lookups.specs.Says.{answerAt}
 use Rattle.lookups.proofs.Laying.{section-inside, starts-before, bytes-are}
@@ -18,10 +21,10 @@ sub-section : tie.Need-sub-section
 sub-section c = search needs
 
 section-at-requires : tie.Need-section-at-requires
-section-at-requires c κs = let f = c .before .before .before in (f .pre .faultless, section-inside (f .pre))
+section-at-requires c κs = let f = c .before .before .before in (plan-good (f .args .plan .now) (f .pre .faultless) .0, section-inside (f .pre))
 
 sub-distance : tie.Need-sub-distance
-sub-distance c = starts-before (c .before .before .before .before .before .pre) (c .before .section-at .ensures .0)
+sub-distance c = starts-before (c .before .before .before .before .before .pre) (ap (λ x. x .offset) (c .before .section-at .ensures))
 
 put16-requires : tie.Need-put16-requires
 put16-requires c κs = search needs
@@ -50,7 +53,7 @@ returns-2 c =
     let distance = a .place - section .section-at .result .offset in
     into-answer (answerAt (a .plan .now) (a .place)) (a .tray .now) refl (omega arith) refl
     (handed-on (putBe 2 (a .laying - 1)) (putBe 8 distance) (a .tray .now) (number .put16 .last .1 .0) (c .before .before .put64 .last .1 .0) 2 (put-length 2 (a .laying - 1)) (number .put16 .ensures) (c .before .before .put64 .ensures) (omega arith)
-    ∙ ap (λ b. over b (a .tray .now)) (bytes-are (f .pre) (section .section-at .ensures .0)))
+    ∙ ap (λ b. over b (a .tray .now)) (bytes-are (f .pre) (ap (λ x. x .offset) (section .section-at .ensures))))
 
 pub give-spec : {M : Type 1} → statement M
 give-spec =

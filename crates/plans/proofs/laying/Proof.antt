@@ -1,133 +1,72 @@
--- laying: sections from i on are left, and the pair of section i begins at byte `at`.
-use Prim.Native.Nat.{_+_, _-_, _*_, _≤_}
-use mathlib.Core.Path.{_≡_, refl, sym, _∙_}
-use mathlib.Core.Logic.{⊎-elim}
+-- laying: only the last section that begins at the place or before it can hold the window.
+use Prim.Native.Nat.{_-_}
+use mathlib.Core.Path.{sym, subst}
 use native.Mathlib.Omega.{arith}
-use lib.ListN.{drop}
 use borrow.Author.Needs.{needs}
-use Rattle.theory.specs.Plans.{marks, sectionCount, sections, layingFrom}
-use Rattle.plans.proofs.Tests.{Whole, accepted-whole}
-use Rattle.plans.proofs.Places.{Pair, none-left, ends-fit, held, behind, past}
+use Rattle.theory.specs.Plans.{sections}
+use Rattle.theory.proofs.Laying.{plan-good, sections-count}
+use Rattle.sections.proofs.Whole.{accepted-whole}
+use Rattle.plans.specs.Begun.{Begun}
+use Rattle.plans.proofs.Places.{ends-fit, nowhere, held, beyond}
 use Rattle.plans.proofs.laying.Statement.{statement}
 use Rattle.plans.proofs.laying.Tie as tie
 
-abbrev Inv-loop : tie.InvT-loop
-Inv-loop plan place last i₀ at₀ i at =
-    (i ≤ sectionCount plan) × Whole plan × (at ≡ 4 + 16 * i) × (layingFrom 0 place (marks plan) (sections plan) ≡ layingFrom i place (marks plan) (drop i (sections plan)))
+begun-requires : tie.Need-begun-requires
+begun-requires c κs = search needs
 
-abbrev μ-loop : tie.MeasureT-loop
-μ-loop plan place last i₀ at₀ i at = sectionCount plan - i
+returns : tie.Need-returns
+returns c =
+    let f = c .before .before .before in
+    sym (nowhere (f .args .plan .now) (f .pre .0) (f .args .place) (subst (Begun (f .args .place) (sections (f .args .plan .now))) (c .if1 .taken) (c .before .begun .ensures)))
 
-shared-slice-read-last : tie.Need-shared-slice-read-last Inv-loop μ-loop
+sub-section-at : tie.Need-sub-section-at
+sub-section-at c = search needs
+
+section-at-requires : tie.Need-section-at-requires
+section-at-requires c κs =
+    let f = c .before .before .before in
+    (plan-good (f .args .plan .now) (f .pre .0) .0, omega (arith, c .before .begun .ensures .within, sections-count (f .args .plan .now)))
+
+shared-slice-read-last : tie.Need-shared-slice-read-last
 shared-slice-read-last c =
-    let w = accepted-whole (c .before .before .args .plan .now) (c .before .before .pre .0) in
-    omega arith
+    let f = c .before .before .before .before .before in
+    omega (arith, accepted-whole (f .args .plan .now) (f .pre .0))
 
-cast-last : tie.Need-cast-last Inv-loop μ-loop
+cast-last : tie.Need-cast-last
 cast-last c = omega (arith, c .shared-slice-known2 .given 1)
 
-add-last : tie.Need-add-last Inv-loop μ-loop
+add-last : tie.Need-add-last
 add-last c = omega (arith, c .shared-slice-known2 .given 1)
 
-loop-holds : tie.Need-loop-holds Inv-loop μ-loop
-loop-holds c = (omega arith, accepted-whole (c .before .before .args .plan .now) (c .before .before .pre .0), refl, refl)
+add-if2 : tie.Need-add-if2
+add-if2 c =
+    let e = c .before .before .before in
+    let f = e .before .before .before in
+    omega (arith, ends-fit (f .args .plan .now) (f .pre .0) (f .args .place) (e .before .begun .ensures) (omega arith) (c .before .before .section-at .ensures))
 
-add-number : tie.Need-add-number Inv-loop μ-loop
-add-number c = omega arith
-
-sub-number : tie.Need-sub-number Inv-loop μ-loop
-sub-number c = omega arith
-
-part-number-start : tie.Need-part-number-start Inv-loop μ-loop
-part-number-start c = omega arith
-
-part-number-end : tie.Need-part-number-end Inv-loop μ-loop
-part-number-end c = omega arith
-
-number-requires : tie.Need-number-requires Inv-loop μ-loop
-number-requires c κs = search needs
-
-add-number-2 : tie.Need-add-number-2 Inv-loop μ-loop
-add-number-2 c = omega arith
-
-add-number-3 : tie.Need-add-number-3 Inv-loop μ-loop
-add-number-3 c = omega arith
-
-sub-number-2 : tie.Need-sub-number-2 Inv-loop μ-loop
-sub-number-2 c = omega arith
-
-part-number-start-2 : tie.Need-part-number-start-2 Inv-loop μ-loop
-part-number-start-2 c = omega arith
-
-part-number-end-2 : tie.Need-part-number-end-2 Inv-loop μ-loop
-part-number-end-2 c = omega arith
-
-number-requires-2 : tie.Need-number-requires-2 Inv-loop μ-loop
-number-requires-2 c κs = search needs
-
-add-looked : tie.Need-add-looked Inv-loop μ-loop
-add-looked c = omega arith
-
--- both numbers of section i were read
-pair : (c : tie.After-number2 Inv-loop μ-loop)
-    → let at = c .before .before .before .before .before in Pair (at .before .before .before .args .plan .now) (at .loop .looked) (at .loop .at) (c .before .before .number .result) (c .number2 .result)
-pair c =
-    let at = c .before .before .before .before .before in
-    record { inside = omega arith; begins = at .loop .inv .2; first = c .before .before .number .ensures; second = c .number2 .ensures }
-
-add-if2 : tie.Need-add-if2 Inv-loop μ-loop
-add-if2 c = omega (arith, ends-fit (pair (c .before)) (c .before .before .before .before .before .before .before .before .before .pre .0))
-
-returns : tie.Need-returns Inv-loop μ-loop
-returns c =
-    let at = c .before .before .before .before .before .before .before in
-    let a = at .before .before .before .args in
-    sym (at .loop .inv .3 ∙ held (pair (c .before .before)) (a .place) (marks (a .plan .now)) (c .before .if1 .taken) (c .if2 .taken))
-
-add-at : tie.Need-add-at Inv-loop μ-loop
-add-at c = omega arith
-
-loop-less : tie.Need-loop-less Inv-loop μ-loop
-loop-less c = omega arith
-
-loop-again : tie.Need-loop-again Inv-loop μ-loop
-loop-again c =
-    let at = c .before .before .before .before .before .before in
-    let a = at .before .before .before .args in
-    let n = marks (a .plan .now) in
-    (omega arith, at .loop .inv .1, omega arith, at .loop .inv .3 ∙ ⊎-elim (λ w. past (pair (c .before)) (a .place) n (w .1 .left)) (λ w. behind (pair (c .before)) (a .place) n (w .left)) (c .if1 .came))
-
-returns-2 : tie.Need-returns-2 Inv-loop μ-loop
+returns-2 : tie.Need-returns-2
 returns-2 c =
-    let at = c .before in
-    let a = at .before .before .before .args in
-    sym (at .loop .inv .3 ∙ none-left (a .place) (marks (a .plan .now)) (at .loop .looked) (a .plan .now) (omega arith))
+    let e = c .before .before .before .before in
+    let f = e .before .before .before in
+    sym (held (f .args .plan .now) (f .pre .0) (f .args .place) (e .before .begun .ensures) (omega arith) (c .before .before .before .section-at .ensures) (c .if2 .taken))
+
+returns-3 : tie.Need-returns-3
+returns-3 c =
+    let e = c .before .before .before .before in
+    let f = e .before .before .before in
+    sym (beyond (f .args .plan .now) (f .pre .0) (f .args .place) (e .before .begun .ensures) (omega arith) (c .before .before .before .section-at .ensures) (c .if2 .left))
 
 pub laying-spec : {M : Type 1} → statement M
 laying-spec =
     tie.close
     (tie.spec
-    Inv-loop
-    μ-loop
+    begun-requires
+    returns
+    sub-section-at
+    section-at-requires
     shared-slice-read-last
     cast-last
     add-last
-    loop-holds
-    add-number
-    sub-number
-    part-number-start
-    part-number-end
-    number-requires
-    add-number-2
-    add-number-3
-    sub-number-2
-    part-number-start-2
-    part-number-end-2
-    number-requires-2
-    add-looked
     add-if2
-    returns
-    add-at
-    loop-less
-    loop-again
-    returns-2)
+    returns-2
+    returns-3)

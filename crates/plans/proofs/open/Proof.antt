@@ -6,7 +6,8 @@ use native.Mathlib.Omega.{arith}
 use lib.ListN.{length}
 use borrow.Author.Needs.{needs}
 use Rattle.theory.specs.Plans.{torn}
-use Rattle.plans.proofs.Tests.{whole, opened-torn, opened-none, straight-sections, opened-strip, opened-crooked}
+use Rattle.sections.proofs.Whole.{whole}
+use Rattle.plans.proofs.Tests.{opened-torn, opened-none, straight-sections, opened-strip, opened-crooked}
 use Rattle.plans.proofs.open.Statement.{statement}
 use Rattle.plans.proofs.open.Tie as tie
 
@@ -53,32 +54,23 @@ returns-2 c =
     let past = c .before .before .before .before .before in
     opened-none (past .before .before .before .args .plan .now) (sound past) (c .before .before .new .ensures) (c .enum-told .given .1)
 
-sub-is-straight : tie.Need-sub-is-straight
-sub-is-straight c = head (c .before .before .before .before .before .before)
-
-part-is-straight-start : tie.Need-part-is-straight-start
-part-is-straight-start c = head (c .before .before .before .before .before .before)
-
-part-is-straight-end : tie.Need-part-is-straight-end
-part-is-straight-end c = search needs
-
 is-straight-requires : tie.Need-is-straight-requires
-is-straight-requires c κs = search needs
+is-straight-requires c κs = sound (c .before .before .before .before .before .before)
 
 returns-3 : tie.Need-returns-3
 returns-3 c =
-    let past = c .before .before .before .before .before .before .before .before .before in
+    let past = c .before .before .before .before .before .before .before .before in
     let s = past .before .before .before .args .plan .now in
-    let made = c .before .before .before .before .before .before .new .ensures in
-    let fine = c .before .before .before .before .strip .given .1 in
+    let made = c .before .before .before .before .before .new .ensures in
+    let fine = c .before .before .before .strip .given .1 in
     opened-strip s (sound past) made fine (straight-sections s (sound past) made fine (sym (c .if2 .taken) ∙ c .before .is-straight .ensures))
 
 returns-4 : tie.Need-returns-4
 returns-4 c =
-    let past = c .before .before .before .before .before .before .before .before .before in
+    let past = c .before .before .before .before .before .before .before .before in
     let s = past .before .before .before .args .plan .now in
-    let made = c .before .before .before .before .before .before .new .ensures in
-    let fine = c .before .before .before .before .strip .given .1 in
+    let made = c .before .before .before .before .before .new .ensures in
+    let fine = c .before .before .before .strip .given .1 in
     opened-crooked s (sound past) made fine (straight-sections s (sound past) made fine (sym (c .if2 .left) ∙ c .before .is-straight .ensures))
 
 pub open-spec : {M : Type 1} → statement M
@@ -95,9 +87,6 @@ open-spec =
     enum-known-strip
     enum-told
     returns-2
-    sub-is-straight
-    part-is-straight-start
-    part-is-straight-end
     is-straight-requires
     returns-3
     returns-4)

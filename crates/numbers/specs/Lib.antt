@@ -1,0 +1,2 @@
+-- Numbers with the highest byte first.
+pub mod Numbers

@@ -1,0 +1,2 @@
+-- What is read from a plan's bytes.
+pub mod Read
