@@ -1,4 +1,5 @@
-/* Calls the library with junk: every set of refusals that can apply together, then inputs drawn with a fixed seed (argument: how many).
+/* Calls the library with junk: every set of refusals that can apply together, every section looked for and every pair of a plan broken, then
+   inputs drawn with a fixed seed (argument: how many).
    Checked: the number given back, that a refusal leaves every byte as it was, that an answer leaves the bytes after it, and answers by
    round trips. Exits 1 if anything is wrong, a number is never given or a call never answers. */
 #include "../include/strip.h"
@@ -409,6 +410,85 @@ static void all_plan_sets(void) {
                 }
 }
 
+/* Every section of a plan looked for, and every pair of numbers broken alone */
+
+static const uint64_t SPREAD_STRIPS[][2] = {{2, 16}, {36, 11}};
+static const uint64_t COUNTS[] = {0, 1, 2, 3, MOST_SECTIONS};
+enum { EARLY, NARROW, BEYOND, LONG, WRAPPING, WAYS };
+
+/* m sections over the whole strip: some touch the next, some leave a gap of one mark, of n or of more */
+static size_t spread(uint64_t k, uint64_t n, uint64_t m, uint8_t *plan) {
+    uint64_t places, gaps[] = {0, 1, n, n + 5};
+    admitted(k, n, &places);
+    plan[0] = (uint8_t)k;
+    plan[1] = (uint8_t)n;
+    put_number(plan + 2, m, 2);
+    for (uint64_t i = 0; i < m; i++) {
+        put_number(plan + 4 + 16 * i, i * (places / m), 8);
+        put_number(plan + 12 + 16 * i, places / m - gaps[i % 4], 8);
+    }
+    return 4 + 16 * (size_t)m;
+}
+
+static void look_at(struct ask *a, uint64_t place) {
+    static uint8_t window[LONGEST];
+    uint64_t k = a->plan[0], n = a->plan[1], places;
+    admitted(k, n, &places);
+    print_marks(k, n, place % places, n, window, n);
+    a->input = window;
+    a->input_length = (size_t)n;
+    a->kind = (a->kind + 1) % KINDS;
+    try_call(a);
+}
+
+/* at a section's first and last mark, at its last window and at the one behind it, and in the gap, if there is one */
+static void each_section(struct ask *a) {
+    look_at(a, 0);
+    look_at(a, UINT64_MAX);
+    for (size_t at = 4; at < a->plan_length; at += 16) {
+        uint64_t start = number_in(a->plan + at, 8), end = start + number_in(a->plan + at + 8, 8);
+        uint64_t spots[] = {start, end - 1, end - a->plan[1], end - a->plan[1] + 1, end};
+        for (size_t i = 0; i < sizeof spots / sizeof *spots; i++) look_at(a, spots[i]);
+    }
+}
+
+/* a pair that begins before the one ahead ends, is too short, begins or ends behind the strip, or has a sum that does not fit 64 bits */
+static void break_pair(uint8_t *pair, int way, uint64_t n, uint64_t places) {
+    uint64_t offset = number_in(pair, 8);
+    switch (way) {
+    case EARLY: put_number(pair, number_in(pair - 16, 8) + number_in(pair - 8, 8) - 1, 8); break;
+    case NARROW: put_number(pair + 8, n - 1, 8); break;
+    case BEYOND: put_number(pair, places + 1, 8); break;
+    case LONG: put_number(pair + 8, places - offset + 1, 8); break;
+    case WRAPPING: put_number(pair + 8, UINT64_MAX - offset + 1, 8); break;
+    }
+}
+
+static void each_pair(struct ask *a, uint8_t *plan) {
+    uint8_t pair[16];
+    uint64_t places;
+    admitted(plan[0], plan[1], &places);
+    for (size_t at = 4; at < a->plan_length; at += 16)
+        for (int way = at == 4 ? EARLY + 1 : EARLY; way < WAYS; way++) {
+            memcpy(pair, plan + at, 16);
+            break_pair(plan + at, way, plan[1], places);
+            if (plan_faults(plan, a->plan_length) != 1u << 8) fail(a, "a pair that is not broken", 0, 8);
+            look_at(a, 0);
+            memcpy(plan + at, pair, 16);
+        }
+}
+
+static void all_sections(void) {
+    static uint8_t plan[MOST_PLAN];
+    for (size_t s = 0; s < sizeof SPREAD_STRIPS / sizeof *SPREAD_STRIPS; s++)
+        for (size_t m = 0; m < sizeof COUNTS / sizeof *COUNTS; m++) {
+            struct ask a = {.call = LOOK, .plan = plan, .tray_length = LAYING};
+            a.plan_length = spread(SPREAD_STRIPS[s][0], SPREAD_STRIPS[s][1], COUNTS[m], plan);
+            each_section(&a);
+            each_pair(&a, plan);
+        }
+}
+
 /* Inputs drawn with a fixed seed */
 
 static uint64_t seed = 20261115;
@@ -555,6 +635,7 @@ int main(int count, char **arguments) {
     tray_room = make_room(MOST_TRAY);
     all_sets();
     all_plan_sets();
+    all_sections();
     for (unsigned long i = 0; i < inputs; i++) draw_call();
     for (unsigned i = 0; i < BITS; i++) total += refused[i];
     for (int call = 0; call < CALLS; call++) answered += round_trips[call];

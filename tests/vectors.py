@@ -349,6 +349,40 @@ def large_plans(chance, many):
             look(plan, strip.marks(strip.places - 1, n))
 
 
+def broken(sections, j, n, places):
+    """The sections with pair j broken, by each rule alone: too early, too short, beginning and ending behind the strip, with a sum of 2^64."""
+    offset, length = sections[j]
+    pairs = [(offset, n - 1), (places + 1, length), (offset, places - offset + 1), (offset, 2**64 - offset)]
+    if j:
+        pairs.append((sum(sections[j - 1]) - 1, length))
+    for pair in pairs:
+        if max(pair) < 2**64:
+            yield sections[:j] + [pair] + sections[j + 1:]
+
+
+def few_sections():
+    """Plans without sections, with one, two and three: every place looked up, and each pair broken."""
+    for k, n in ((2, 5), (3, 3), (36, 1)):
+        places, strip = k**n, strip_of(k, n)
+        for m in range(4):
+            for gap in (0, 1, n):
+                sections = [(i * (places // m), places // m - gap) for i in range(m)]
+                for at in range(places):
+                    look(plan_bytes(k, n, sections), strip.marks(at, n))
+                for j in range(m):
+                    for crooked in broken(sections, j, n, places):
+                        look(plan_bytes(k, n, crooked), strip.marks(0, n))
+
+
+def broken_among_500():
+    for k, n in LARGE:
+        strip = strip_of(k, n)
+        sections = [(i * (strip.places // 500), strip.places // 500 - i % 2) for i in range(500)]
+        for j in (0, 1, 249, 250, 498, 499):
+            for crooked in broken(sections, j, n, strip.places):
+                look(plan_bytes(k, n, crooked), strip.marks(0, n))
+
+
 def main():
     most = int(sys.argv[1]) if len(sys.argv) > 1 else 4096
     chance = random.Random(20261115)
@@ -368,6 +402,8 @@ def main():
     large_plans(chance, 6)
     small_smudged(chance, 2)
     large_smudged(chance, 6)
+    few_sections()
+    broken_among_500()
 
 
 if __name__ == "__main__":
