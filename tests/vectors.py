@@ -349,7 +349,7 @@ def large_plans(chance, many):
             look(plan, strip.marks(strip.places - 1, n))
 
 
-def broken(sections, j, n, places):
+def one_broken(sections, j, n, places):
     """The sections with pair j broken, by each rule alone: too early, too short, beginning and ending behind the strip, with a sum of 2^64."""
     offset, length = sections[j]
     pairs = [(offset, n - 1), (places + 1, length), (offset, places - offset + 1), (offset, 2**64 - offset)]
@@ -370,16 +370,16 @@ def few_sections():
                 for at in range(places):
                     look(plan_bytes(k, n, sections), strip.marks(at, n))
                 for j in range(m):
-                    for crooked in broken(sections, j, n, places):
+                    for crooked in one_broken(sections, j, n, places):
                         look(plan_bytes(k, n, crooked), strip.marks(0, n))
 
 
-def broken_among_500():
+def broken_among_500(chance):
     for k, n in LARGE:
         strip = strip_of(k, n)
-        sections = [(i * (strip.places // 500), strip.places // 500 - i % 2) for i in range(500)]
+        sections = spread(strip.places, n, 500, chance)
         for j in (0, 1, 249, 250, 498, 499):
-            for crooked in broken(sections, j, n, strip.places):
+            for crooked in one_broken(sections, j, n, strip.places):
                 look(plan_bytes(k, n, crooked), strip.marks(0, n))
 
 
@@ -403,7 +403,7 @@ def main():
     small_smudged(chance, 2)
     large_smudged(chance, 6)
     few_sections()
-    broken_among_500()
+    broken_among_500(chance)
 
 
 if __name__ == "__main__":
