@@ -54,7 +54,7 @@ fn answered(answer: calls::Value) {
 // rank_of, in a tray that is two bytes too long.
 fn rank(k: u64, n: u64, word: &[u8]) {
     let mut tray = [170u8; 10];
-    let number = words::rank_of(k, n, word, &mut tray);
+    let number = ranking::rank_of(k, n, word, &mut tray);
     asked(b"rank", k, n);
     letters(word);
     space();
@@ -67,7 +67,7 @@ fn rank(k: u64, n: u64, word: &[u8]) {
 // word_of, in a tray of 8 bytes.
 fn word(k: u64, n: u64, index: u64) {
     let mut tray = [7u8; 8];
-    let number = words::word_of(k, n, index, &mut tray);
+    let number = ranking::word_of(k, n, index, &mut tray);
     asked(b"word", k, n);
     io::print_decimal(1, index);
     space();
@@ -90,7 +90,7 @@ fn words(k: u64, n: u64, last: u64) {
 // lyndon_count.
 fn count(k: u64, n: u64) {
     asked(b"count", k, n);
-    answered(words::lyndon_count(k, n));
+    answered(ranking::lyndon_count(k, n));
 }
 
 // The three calls that look at a word alone.

@@ -9,7 +9,7 @@ use Rattle.theory.specs.Words.{howMany, marksOk}
 use Rattle.theory.specs.Strips.{admitted, stripFault}
 use Rattle.calls.specs.Refusals.{theWordFault, indexFault, placeFault}
 use Rattle.calls.proofs.Checks.{place-fine}
-use Rattle.words.proofs.Indexes.{index-fine}
+use Rattle.ranking.proofs.Indexes.{index-fine}
 
 pub strip-faultless : (k n : ℕ) → admitted k n ≡ true → stripFault k n ≡ 0
 strip-faultless k n a = rw a refl

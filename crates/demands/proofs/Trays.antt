@@ -27,8 +27,9 @@ use Rattle.calls.specs.declared.Value as DV
 use Rattle.calls.specs.Answers.{Into, Number, ValueIs}
 use Rattle.calls.specs.Refusals.{theWordFault, indexFault, placeFault}
 use Rattle.calls.proofs.Answers.{into-given}
-use Rattle.words.proofs.Indexes.{index-range, index-long}
-use Rattle.words.specs.Says.{RotationSays, RankSays, WordSays}
+use Rattle.ranking.proofs.Indexes.{index-range, index-long}
+use Rattle.words.specs.Says.{RotationSays}
+use Rattle.ranking.specs.Says.{RankSays, WordSays}
 use Rattle.marks.specs.Says.{MarkSays, PlaceSays, PrintSays}
 use Rattle.lookups.specs.Says.{answerAt, answerSize, LookupSays, Picked, SmudgedSays}
 use Rattle.demands.specs.Trays.{Keeps, Trays}

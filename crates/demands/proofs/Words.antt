@@ -21,7 +21,8 @@ use Rattle.buffers.specs.Buffers.{over}
 use Rattle.numbers.specs.Numbers.{putBe}
 use Rattle.calls.specs.declared.Value as DV
 use Rattle.calls.specs.Refusals.{theWordFault, indexFault}
-use Rattle.words.specs.Says.{LyndonSays, RotationSays, RootSays, ManySays, RankSays, WordSays}
+use Rattle.words.specs.Says.{LyndonSays, RotationSays, RootSays}
+use Rattle.ranking.specs.Says.{ManySays, RankSays, WordSays}
 use Rattle.demands.proofs.Faults.{strip-faultless, word-faultless, index-faultless}
 use Rattle.demands.proofs.Trays.{into-fine, number-fine, tray-back, small, value-fine}
 

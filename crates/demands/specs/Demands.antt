@@ -16,7 +16,8 @@ use Rattle.buffers.specs.Buffers.{over}
 use Rattle.numbers.specs.Numbers.{putBe}
 use Rattle.calls.specs.declared.Value as DV
 use Rattle.calls.specs.Answers.{ValueIs}
-use Rattle.words.specs.Says.{LyndonSays, RotationSays, RootSays, ManySays, RankSays, WordSays}
+use Rattle.words.specs.Says.{LyndonSays, RotationSays, RootSays}
+use Rattle.ranking.specs.Says.{ManySays, RankSays, WordSays}
 use Rattle.marks.specs.Says.{MarkSays, PlaceSays, PrintSays}
 use Rattle.lookups.specs.Says.{answerSize, LookupSays, SmudgedSays}
 use Rattle.cursors.specs.declared.Cursor as DC

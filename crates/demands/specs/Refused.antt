@@ -14,7 +14,8 @@ use Rattle.theory.specs.Plans.{shades, marks, sectionCount, sections, nthS, tor
 use Rattle.theory.specs.Erasures.{unread, read, agrees, fitting}
 use Rattle.calls.specs.declared.Value as DV
 use Rattle.calls.specs.Order.{order, Rule, rule, appliesIn, given}
-use Rattle.words.specs.Says.{LyndonSays, RotationSays, RootSays, ManySays, RankSays, WordSays}
+use Rattle.words.specs.Says.{LyndonSays, RotationSays, RootSays}
+use Rattle.ranking.specs.Says.{ManySays, RankSays, WordSays}
 use Rattle.marks.specs.Says.{MarkSays, PlaceSays, PrintSays}
 use Rattle.lookups.specs.Says.{answerSize, PlanSays, LookupSays, SmudgedSays}
 use Rattle.cursors.specs.declared.Cursor as DC

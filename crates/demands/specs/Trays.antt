@@ -4,7 +4,8 @@ use mathlib.Core.List.{List}
 use mathlib.Core.Logic.{_≢_}
 use Prim.Native.Nat.{ℕ}
 use lib.ListN.{length, drop}
-use Rattle.words.specs.Says.{RotationSays, RankSays, WordSays}
+use Rattle.words.specs.Says.{RotationSays}
+use Rattle.ranking.specs.Says.{RankSays, WordSays}
 use Rattle.marks.specs.Says.{MarkSays, PlaceSays, PrintSays}
 use Rattle.lookups.specs.Says.{answerSize, LookupSays, SmudgedSays}
 

@@ -131,7 +131,7 @@ fn word(k: u64, n: u64, word: &[u8], lent: usize)
     valued(b"shortest_root", words::shortest_root(k, n, word));
     let mut tray = [170u8; TRAY_BYTES];
     rotated(k, n, word, lent, &mut tray);
-    valued(b"lyndon_count", words::lyndon_count(k, n));
+    valued(b"lyndon_count", ranking::lyndon_count(k, n));
 }
 
 // An ask for a word.

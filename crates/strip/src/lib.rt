@@ -1,5 +1,5 @@
 // The boundary for C: each call is one line that calls its family, with the family's promise. include/strip.h declares them.
-ghost use Rattle.words.specs.Says.{RankSays, WordSays};
+ghost use Rattle.ranking.specs.Says.{RankSays, WordSays};
 ghost use Rattle.marks.specs.Says.{MarkSays, PlaceSays, PrintSays};
 ghost use Rattle.lookups.specs.Says.{LookupSays, SmudgedSays};
 
@@ -8,7 +8,7 @@ ghost use Rattle.lookups.specs.Says.{LookupSays, SmudgedSays};
 pub extern "C" fn rank_of(k: u64, n: u64, word: &[u8], tray: &mut [u8]) -> u8
     ensures { λ r. ⌜ RankSays k n (now (word .entry)) (now (tray .entry)) (now (tray .exit)) r ⌝ }
 {
-    words::rank_of(k, n, word, tray)
+    ranking::rank_of(k, n, word, tray)
 }
 
 // The Lyndon word of an index, in the tray's first n bytes.
@@ -16,7 +16,7 @@ pub extern "C" fn rank_of(k: u64, n: u64, word: &[u8], tray: &mut [u8]) -> u8
 pub extern "C" fn word_of(k: u64, n: u64, index: u64, tray: &mut [u8]) -> u8
     ensures { λ r. ⌜ WordSays k n index (now (tray .entry)) (now (tray .exit)) r ⌝ }
 {
-    words::word_of(k, n, index, tray)
+    ranking::word_of(k, n, index, tray)
 }
 
 // The mark at a place, as 8 bytes.

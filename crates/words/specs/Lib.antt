@@ -1,2 +1,2 @@
--- What the calls on words promise.
+-- What the calls on one word promise.
 pub mod Says

@@ -5,8 +5,8 @@ use Rattle.theory.specs.Words.{rank}
 use Rattle.calls.specs.Refusals.{theWordFault}
 use Rattle.calls.proofs.Checks.{passed, word-checked}
 use Rattle.calls.proofs.Answers.{number-refused-by, number-given}
-use Rattle.words.proofs.rank_of.Statement.{statement}
-use Rattle.words.proofs.rank_of.Tie as tie
+use Rattle.ranking.proofs.rank_of.Statement.{statement}
+use Rattle.ranking.proofs.rank_of.Tie as tie
 
 check-word-requires : tie.Need-check-word-requires
 check-word-requires c κs = search needs

@@ -5,8 +5,8 @@ use Rattle.theory.specs.Words.{howMany}
 use Rattle.theory.specs.Strips.{stripFault}
 use Rattle.calls.proofs.Checks.{passed, strip-checked}
 use Rattle.calls.proofs.Answers.{value-refused-by, value-answer}
-use Rattle.words.proofs.lyndon_count.Statement.{statement}
-use Rattle.words.proofs.lyndon_count.Tie as tie
+use Rattle.ranking.proofs.lyndon_count.Statement.{statement}
+use Rattle.ranking.proofs.lyndon_count.Tie as tie
 
 check-strip-requires : tie.Need-check-strip-requires
 check-strip-requires c κs = search needs

@@ -7,9 +7,9 @@ use lib.Dec.{eqb, ltb}
 use borrow.Author.Needs.{needs}
 use Rattle.theory.specs.Words.{when, howMany}
 use Rattle.calls.proofs.Checks.{strip-refused, strip-then-refused, strip-then-passed, strip-checked}
-use Rattle.words.proofs.Indexes.{index-zero, index-large, index-fine}
-use Rattle.words.proofs.check_index.Statement.{statement}
-use Rattle.words.proofs.check_index.Tie as tie
+use Rattle.ranking.proofs.Indexes.{index-zero, index-large, index-fine}
+use Rattle.ranking.proofs.check_index.Statement.{statement}
+use Rattle.ranking.proofs.check_index.Tie as tie
 
 check-strip-requires : tie.Need-check-strip-requires
 check-strip-requires c κs = search needs

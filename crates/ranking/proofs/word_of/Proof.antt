@@ -9,9 +9,9 @@ use Rattle.theory.specs.Words.{wordOf, howMany}
 use Rattle.calls.specs.Refusals.{indexFault}
 use Rattle.calls.proofs.Checks.{StripIs, passed}
 use Rattle.calls.proofs.Answers.{into-refused-by, into-small, into-answer, part-over}
-use Rattle.words.proofs.Indexes.{index-long, index-checked}
-use Rattle.words.proofs.word_of.Statement.{statement}
-use Rattle.words.proofs.word_of.Tie as tie
+use Rattle.ranking.proofs.Indexes.{index-long, index-checked}
+use Rattle.ranking.proofs.word_of.Statement.{statement}
+use Rattle.ranking.proofs.word_of.Tie as tie
 
 check-index-requires : tie.Need-check-index-requires
 check-index-requires c κs = search needs

@@ -1,0 +1,2 @@
+-- What the calls on the Lyndon words of a length promise.
+pub mod Says
