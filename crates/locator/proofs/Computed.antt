@@ -4,9 +4,9 @@ use mathlib.Core.List.{List}
 use Prim.Native.Nat.{ℕ, _+_, _-_, _≤_, _<_}
 use native.Mathlib.Omega.{arith}
 use lib.Dec.{eqb}
-use lib.ListN.{length, take, drop, replicate, length-drop}
+use lib.ListN.{length, take, drop, length-drop}
 use lib.Seq.{take-all}
-use Rattle.theory.specs.Words.{pick, leastTurn, root}
+use Rattle.theory.specs.Words.{pick, smallest, leastTurn, root}
 use Rattle.theory.specs.Rings.{cursor}
 use Rattle.theory.specs.Strips.{marksFrom, placeOf, placeIn}
 use Rattle.theory.specs.Sums.{cs}
@@ -42,12 +42,14 @@ module _ {s : DS.Strip} {w : List ℕ} {l m : ℕ} (on : WordOn s w) (lead : l �
     not-all : ¬ (leading (s .k - 1) w + leading 0 (drop (leading (s .k - 1) w) w) ≡ s .n)
     not-all e = more (omega (arith, lead, counted, on .long))
 
-    pub turn-based : {v : List ℕ} → v ≡ replicate (length w) 0 → Based (s .k) w t l v
-    turn-based {v} e = subst₂ (λ x y. Based (s .k) w x y v) (sym turn) (sym lead) (base-fits on not-all e)
+    module _ {v : List ℕ} (rotation : v ≡ smallest w) where
+      pub turn-based : Based (s .k) t l v
+      turn-based = subst (Based (s .k) t l) (sym rotation) (subst₂ (λ x y. Based (s .k) x y (smallest w)) (sym turn) (sym lead) (base-fits on not-all))
 
-    pub turn-located : {v : List ℕ} → v ≡ baseOf (s .k) w t l → Located (s .k) (s .n) w t v
-    turn-located {v} e =
-        subst₂ (λ x y. Located (s .k) (s .n) w x y) (sym turn) (sym (e ∙ ap₂ (baseOf (s .k) w) turn lead)) (located on not-all)
+      pub turn-located : {u : List ℕ} → u ≡ baseOf (s .k) t l v → Located (s .k) (s .n) w t u
+      turn-located e =
+          let is = ap (baseOf (s .k) t l) rotation ∙ ap₂ (λ x y. baseOf (s .k) x y (smallest w)) turn lead in
+          subst₂ (Located (s .k) (s .n) w) (sym turn) (sym (e ∙ is)) (located on not-all)
 
 -- the word's length and its end
 module _ {s : DS.Strip} {w : List ℕ} {t : ℕ} {v : List ℕ} {long : ℕ} (on : WordOn s w) (at : Located (s .k) (s .n) w t v) (size : long ≡ root v) where

@@ -9,7 +9,7 @@ use native.Mathlib.Nat.{add-zero}
 use lib.Dec.{eqb}
 use lib.ListN.{length, getD, take, drop, replicate, length-drop, getD-replicate, take-append-drop}
 use lib.Seq.{take-all, take-at, drop-at, getD-take, getD-drop}
-use borrow.Author.Tests.{eq-eqb, ne-eqb, lt-ltb, le-ltb}
+use borrow.Author.Tests.{eq-eqb, ne-eqb}
 use Rattle.theory.specs.Words.{pick, below, turned, leastTurn, smallest, root, marksOk}
 use Rattle.theory.specs.Rings.{cursor, beforeW, lettersOn}
 use Rattle.theory.specs.Strips.{strip, stripWords, marksFrom, window, placeOf, placeIn}
@@ -31,7 +31,8 @@ use Rattle.floors.specs.Lowering.{Lowerable}
 use Rattle.theory.proofs.Turns.{least-turn-smallest, least-turn-root}
 use Rattle.automaton.specs.Tables.{Counted}
 use Rattle.rings.specs.Moves.{HeldOn}
-use Rattle.locator.specs.Fits.{leading, firstFit, Based, baseOf}
+use Rattle.locator.specs.Fits.{leading, firstFit, cleared, Based, baseOf}
+use Rattle.locator.proofs.Bases.{cleared-rest, base-kept, base-lowered}
 use Rattle.locator.proofs.Leading.{leading-length, leading-take, leading-most, leading-upto, leading-all}
 use Rattle.locator.proofs.Fits.{stands, first-fit-found}
 
@@ -145,8 +146,12 @@ module _ {s : DS.Strip} {w : List ℕ} (on : WordOn s w) where
         start-place (s .k) (s .n) w turn (lim .two) (lim .some) (on .long) (on .marks) turn-smallest turn-root
         (leading-upto (s .k - 1) turn w (omega (arith, on .long, turn-inside)) .0 l) (not-zeros l) not-all
 
-    pub base-fits : {v : List ℕ} → v ≡ replicate (length w) 0 → Based (s .k) w turn lead v
-    base-fits e = record { inside = omega (arith, on .long, turn-inside); zeros = e; lowers = lowers }
+    -- the smallest rotation, with zeros in place of what it begins with
+    rest : cleared turn (smallest w) ≡ drop turn w ++ replicate turn 0
+    rest = ap (cleared turn) (sym turn-smallest) ∙ cleared-rest w turn (omega (arith, on .long, turn-inside))
+
+    pub base-fits : Based (s .k) turn lead (smallest w)
+    base-fits = record { inside = omega (arith, smallest-length w, on .long, turn-inside); lowers = λ l. subst (Lowerable (s .k)) (sym rest) (lowers l) }
       where
         lowers : turn ≤ lead → Lowerable (s .k) (drop turn w ++ replicate turn 0)
         lowers l =
@@ -156,21 +161,19 @@ module _ {s : DS.Strip} {w : List ℕ} (on : WordOn s w) where
               above = subst (λ x. below (replicate x 0) (drop turn w ++ replicate turn 0) ≡ true) (sym (p .long)) (p .above-zeros);
             }
 
-    pub located : Located (s .k) (s .n) w turn (baseOf (s .k) w turn lead)
+    pub located : Located (s .k) (s .n) w turn (baseOf (s .k) turn lead (smallest w))
     located = elim (split turn lead) [ upto l ↦ lowered l | over l ↦ rotated l ]
       where
-        lowered : turn ≤ lead → Located (s .k) (s .n) w turn (baseOf (s .k) w turn lead)
+        lowered : turn ≤ lead → Located (s .k) (s .n) w turn (baseOf (s .k) turn lead (smallest w))
         lowered l =
             let p = start l in
-            let is : necklaceBelow (s .k) (drop turn w ++ replicate turn 0) ≡ baseOf (s .k) w turn lead =
-            ap (λ t. pick t (turned turn w) (necklaceBelow (s .k) (drop turn w ++ replicate turn 0))) (sym (le-ltb lead turn l)) in
+            let is : necklaceBelow (s .k) (drop turn w ++ replicate turn 0) ≡ baseOf (s .k) turn lead (smallest w) =
+            ap (necklaceBelow (s .k)) (sym rest) ∙ base-lowered (s .k) turn lead (smallest w) l in
             subst (Located (s .k) (s .n) w turn) is (record { long = p .below-long; marks = p .below-marks; necklace = p .below-necklace; inside = p .turn-inside; place = p .place })
 
-        rotated : lead < turn → Located (s .k) (s .n) w turn (baseOf (s .k) w turn lead)
+        rotated : lead < turn → Located (s .k) (s .n) w turn (baseOf (s .k) turn lead (smallest w))
         rotated l =
-            let is : smallest w ≡ baseOf (s .k) w turn lead =
-            sym turn-smallest ∙ ap (λ t. pick t (turned turn w) (necklaceBelow (s .k) (drop turn w ++ replicate turn 0))) (sym (lt-ltb lead turn l)) in
-            subst (Located (s .k) (s .n) w turn) is (record {
+            subst (Located (s .k) (s .n) w turn) (base-kept (s .k) turn lead (smallest w) l) (record {
               long = smallest-length w ∙ on .long;
               marks = smallest-marks (s .k) w (on .marks);
               necklace = smallest-own (smallest-necklace w);

@@ -1,11 +1,11 @@
 -- Letters at the start of a word; the first fit of a window in a text; the necklace from whose root word on a window is looked for.
-use mathlib.Core.Path.{_≡_}
-use mathlib.Core.List.{List, [], _∷_, _++_}
+use mathlib.Core.List.{List, [], _∷_}
 use Prim.Native.Nat.{ℕ, zero, suc, _+_, _-_, _≤_}
 use lib.Dec.{eqb, ltb}
-use lib.ListN.{length, take, drop, replicate}
+use lib.ListN.{length, take, drop}
+use Rattle.buffers.specs.Buffers.{filled}
 use Rattle.floors.specs.Lowering.{Lowerable}
-use Rattle.theory.specs.Words.{pick, same, turned}
+use Rattle.theory.specs.Words.{pick, same}
 use Rattle.theory.specs.Floors.{necklaceBelow}
 
 -- how many letters b stand at the start
@@ -21,11 +21,14 @@ fitFrom (suc l) p text w = pick (same (take (length w) (drop p text)) w) p (fitF
 abbrev pub firstFit : List ℕ → List ℕ → ℕ
 firstFit text w = fitFrom (length text - length w + 1) 0 text w
 
--- the turn is within the word; zeros in the buffer; a word to lower, where one is lowered
-pub record Based (k : ℕ) (w : List ℕ) (turn lead : ℕ) (v : List ℕ) : Type 0 where
-  pub inside : turn ≤ length w
-  pub zeros : v ≡ replicate (length w) 0
-  pub lowers : turn ≤ lead → Lowerable k (drop turn w ++ replicate turn 0)
+-- a word with zeros for its last letters: γ α with as many zeros as α has letters
+abbrev pub cleared : ℕ → List ℕ → List ℕ
+cleared turn v = filled 0 (length v - turn) v
 
-abbrev pub baseOf : ℕ → List ℕ → ℕ → ℕ → List ℕ
-baseOf k w turn lead = pick (ltb lead turn) (turned turn w) (necklaceBelow k (drop turn w ++ replicate turn 0))
+-- the turn is within the word; where a word is lowered, there is one below it
+pub record Based (k turn lead : ℕ) (v : List ℕ) : Type 0 where
+  pub inside : turn ≤ length v
+  pub lowers : turn ≤ lead → Lowerable k (cleared turn v)
+
+abbrev pub baseOf : ℕ → ℕ → ℕ → List ℕ → List ℕ
+baseOf k turn lead v = pick (ltb lead turn) v (necklaceBelow k (cleared turn v))

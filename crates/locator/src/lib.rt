@@ -51,17 +51,18 @@ fn first_fit(text: &[u8], window: &[u8]) -> usize
     found
 }
 
-// The necklace from whose root word on the window is looked for: it begins in that word or right behind it. w = α γ with γ α its smallest
-// rotation, α its first `turn` letters: that rotation, if α is not all k−1 (`lead` letters of w are); else the largest necklace below γ 0 .. 0.
-fn base(k: u64, w: &[u8], turn: usize, lead: usize, v: &mut [u8])
-    requires { ⌜ Based k (now w) turn lead (now v) ⌝ }
-    ensures { λ _. ⌜ now (v .exit) ≡ baseOf k (now (w .entry)) turn lead ⌝ }
+// The necklace from whose root word on the window is looked for: it begins in that word or right behind it. The window is α γ with γ α its
+// smallest rotation, which v holds, and α its first `turn` letters. The necklace is γ α, if α is not all k−1 (`lead` first letters are); else the
+// largest one below γ 0 .. 0.
+fn base(k: u64, turn: usize, lead: usize, v: &mut [u8])
+    requires { ⌜ Based k turn lead (now v) ⌝ }
+    ensures { λ _. ⌜ now (v .exit) ≡ baseOf k turn lead (now (v .entry)) ⌝ }
 {
     if lead < turn {
-        buffers::copy_turned(w, turn, v);
         return;
     }
-    buffers::copy(&w[turn..], v);
+    let rest = v.len() - turn;
+    buffers::fill(v, rest, 0);
     floors::lower(k, v);
 }
 
@@ -87,10 +88,10 @@ pub fn place_of(s: Strip, w: &[u8]) -> u64
     if lead + count_leading(0, &w[lead..]) == n {
         return wrapped(s, lead);
     }
-    let turn = rotations::least_turn(w);
     let mut room = [0u8; Strip::LONGEST];
     let v = &mut room[..n];
-    base(k, w, turn, lead, v);
+    let turn = rotations::smallest(w, v);
+    base(k, turn, lead, v);
     let mut t = [0u64; automaton::CELLS];
     let end = automaton::whole(k, v, s.size, &mut t);
     let long = rotations::shortest_root(v);

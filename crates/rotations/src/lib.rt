@@ -1,8 +1,9 @@
-// Rotations and roots of a word: the turn to its smallest rotation, the length of its shortest root.
+// Rotations and roots of a word: its smallest rotation and the turn to it, the length of its shortest root.
 ghost use mathlib.Core.Path.{_≡_};
 ghost use Prim.Native.Nat.{_-_, _≤_, _<_};
 ghost use lib.ListN.{length, take, drop};
-ghost use Rattle.theory.specs.Words.{same, below, turned, root, leastTurn};
+ghost use Rattle.theory.specs.Words.{same, below, turned, root, smallest, leastTurn};
+ghost use Rattle.buffers.specs.Buffers.{over};
 
 // Is the rotation by i below the rotation by b? It leaves at the first differing letter.
 fn turn_below(w: &[u8], i: usize, b: usize) -> bool
@@ -46,6 +47,16 @@ pub fn least_turn(w: &[u8]) -> usize
         i += 1;
     }
     b
+}
+
+// The smallest rotation, over the start of a buffer, and the least turn that gives it.
+pub fn smallest(w: &[u8], out: &mut [u8]) -> usize
+    requires { ⌜ length (now w) ≤ length (now out) ⌝ }
+    ensures { λ r. ⌜ (r ≡ leastTurn (now (w .entry))) × (now (out .exit) ≡ over (smallest (now (w .entry))) (now (out .entry))) ⌝ }
+{
+    let turn = least_turn(w);
+    buffers::copy_turned(w, turn, out);
+    turn
 }
 
 // Does w go on as it began, d letters later?

@@ -1,11 +1,14 @@
 -- `locator::place_of` meets its contract: at the wrap, or at the first fit in the letters from the base word on.
-use mathlib.Core.Path.{refl, sym, _∙_}
+use mathlib.Core.Path.{_≡_, refl, sym, _∙_}
 use Prim.Native.Nat.{_-_}
 use native.Mathlib.Omega.{arith}
 use lib.ListN.{replicate}
 use lib.Seq.{length-take-le}
+use Rattle.theory.specs.Words.{smallest}
+use Rattle.theory.proofs.Necklaces.{smallest-length}
 use Rattle.shape.proofs.Limits.{limits}
-use Rattle.locator.proofs.Leading.{leading-length, replicate-take}
+use Rattle.locator.proofs.Leading.{leading-length}
+use Rattle.locator.proofs.Bases.{over-whole}
 use Rattle.locator.proofs.Locates.{Located, place-small, base-counted}
 use Rattle.locator.proofs.Computed.{counts-inside, wrapped-inside, wrapped-place, turn-based, turn-located, letters-short, word-held, word-inside, text-room, text-place}
 use borrow.Author.Needs.{needs}
@@ -51,34 +54,43 @@ returns c =
     c .wrapped .ensures
     ∙ wrapped-place (start counted .pre) (counted .before .before .count-leading .ensures) (counted .count-leading2 .ensures) (c .before .if1 .taken)
 
-least-turn-requires : tie.Need-least-turn-requires
-least-turn-requires c κs = search needs
-
--- after `least_turn`: the window is no longer than the buffer
+-- before `smallest`: the window is no longer than the buffer
 array-borrow-prefix-room : tie.Need-array-borrow-prefix-room
-array-borrow-prefix-room c = let on = start (c .before .before) .pre in omega (arith, on .long, limits (on .shaped) .short)
+array-borrow-prefix-room c = let on = start (c .before) .pre in omega (arith, on .long, limits (on .shaped) .short)
 
 slice-aggregate-v : tie.Need-slice-aggregate-v
 slice-aggregate-v c = sym (length-take-le _ (replicate 60 0) (array-borrow-prefix-room (c .before)))
 
+smallest-requires : tie.Need-smallest-requires
+smallest-requires c κs = omega (arith, slice-aggregate-v (c .before))
+
+-- after `smallest`: the buffer holds the smallest rotation
+abbrev counts : tie.After-smallest → tie.After-count-leading2
+counts c = c .before .before .before .before
+
+rotation : (c : tie.After-smallest) → c .smallest .last .1 .0 ≡ smallest (start (counts c) .args .w .now)
+rotation c =
+    let w = start (counts c) .args .w .now in
+    c .smallest .ensures .1 ∙ over-whole (smallest w) _ (smallest-length w ∙ slice-aggregate-v (c .before .before))
+
 base-requires : tie.Need-base-requires
 base-requires c κs =
-    let turned = c .before .before in
-    let counted = turned .before .before in
-    turn-based (start counted .pre) (counted .before .before .count-leading .ensures) (counted .count-leading2 .ensures) (turned .before .if1 .left)
-    (turned .least-turn .ensures) (replicate-take _ 60 0 (array-borrow-prefix-room turned))
+    let turned = c .before .before .before in
+    let counted = counts turned in
+    turn-based (start counted .pre) (counted .before .before .count-leading .ensures) (counted .count-leading2 .ensures) (turned .before .before .before .if1 .left)
+    (turned .smallest .ensures .0) (rotation turned)
 
 -- after `base`: the word from which on the window is looked for
 abbrev begun : tie.After-base → tie.Start
-begun c = start (c .before .before .before .before .before)
+begun c = start (counts (c .before .before .before .before))
 
 located-at : (c : tie.After-base) → let a = begun c .args in
-    Located (a .s .k) (a .s .n) (a .w .now) (c .before .before .before .least-turn .result) (c .base .last .1 .1 .1 .1 .0)
+    Located (a .s .k) (a .s .n) (a .w .now) (c .before .before .before .before .smallest .result) (c .base .last .1 .1 .1 .0)
 located-at c =
-    let turned = c .before .before .before in
-    let counted = turned .before .before in
-    turn-located (begun c .pre) (counted .before .before .count-leading .ensures) (counted .count-leading2 .ensures) (turned .before .if1 .left)
-    (turned .least-turn .ensures) (c .base .ensures)
+    let turned = c .before .before .before .before in
+    let counted = counts turned in
+    turn-located (begun c .pre) (counted .before .before .count-leading .ensures) (counted .count-leading2 .ensures) (turned .before .before .before .if1 .left)
+    (turned .smallest .ensures .0) (rotation turned) (c .base .ensures)
 
 slice-aggregate-whole : tie.Need-slice-aggregate-whole
 slice-aggregate-whole c = search needs
@@ -157,9 +169,9 @@ place-of-spec =
     add-if1
     wrapped-requires
     returns
-    least-turn-requires
     array-borrow-prefix-room
     slice-aggregate-v
+    smallest-requires
     base-requires
     slice-aggregate-whole
     whole-requires
