@@ -24,16 +24,27 @@ static size_t marks_of(const char *text, uint8_t *marks, size_t room)
     return count;
 }
 
-/* Prints where a window stands in a plan, or one that agrees with it, or why that is not told. One mark more than any strip has is enough to
-   be refused. */
+/* Prints by how many marks a window of a plan's strip is turned to its smallest rotation, if all its marks were read. */
+static void tell_turn(const uint8_t *plan, const uint8_t *window, size_t count)
+{
+    uint8_t tray[STRIP_NUMBER];
+    if (turn_of(plan[0], plan[1], window, count, tray, sizeof tray) == STRIP_FINE)
+        printf(", turn %llu", (unsigned long long)number(tray, sizeof tray));
+}
+
+/* Prints where a window stands in a plan, or one that agrees with it, and its turn; or why that is not told. One mark more than any strip has is
+   enough to be refused. */
 static void look(const uint8_t *plan, size_t plan_len, const char *text)
 {
     uint8_t window[STRIP_MOST_MARKS + 1], tray[STRIP_LAYING];
     size_t count = marks_of(text, window, sizeof window);
     uint8_t refused = look_up_smudged(plan, plan_len, window, count, tray, sizeof tray);
-    if (refused != STRIP_FINE)
+    if (refused != STRIP_FINE) {
         printf("%s: refused %u, %s\n", text, refused, strip_meaning(refused));
-    else
-        printf("%s: section %llu, distance %llu\n", text, (unsigned long long)number(tray, 2), (unsigned long long)number(tray + 2, 8));
+        return;
+    }
+    printf("%s: section %llu, distance %llu", text, (unsigned long long)number(tray, 2), (unsigned long long)number(tray + 2, 8));
+    tell_turn(plan, window, count);
+    printf("\n");
 }
 #endif

@@ -31,7 +31,7 @@ extern "C" {
 
 /* The major number rises with a change that a host must react to, the minor number with a new call. */
 #define STRIP_VERSION_MAJOR 1
-#define STRIP_VERSION_MINOR 1
+#define STRIP_VERSION_MINOR 2
 
 /* Limits: k from 2, n from 1, and k^n at most 2^60; sections of a plan, and its bytes. */
 #define STRIP_MOST_SHADES 36
@@ -80,6 +80,11 @@ static inline const char *strip_meaning(unsigned number) {
 /* Bytes of an answer: a number; a section and a distance. */
 #define STRIP_NUMBER 8
 #define STRIP_LAYING 10
+
+/* The turn of a word of n marks: how many marks must go from its front to its end, one after the other, until it is its smallest rotation for the
+   first time. 0 for a word that is so already, else below n: 1 for 101010. Read on from that mark, round the end, the word is its smallest
+   rotation: mark i of that is word[(turn + i) % n]. Tray: 8 bytes. Refusals: 1, 2, 3, 6. */
+uint8_t turn_of(uint64_t k, uint64_t n, const uint8_t *word, size_t word_len, uint8_t *tray, size_t tray_len);
 
 /* The rank of a word of n marks: how many Lyndon words of length n do not exceed it. Tray: 8 bytes. Refusals: 1, 2, 3, 6. */
 uint8_t rank_of(uint64_t k, uint64_t n, const uint8_t *word, size_t word_len, uint8_t *tray, size_t tray_len);

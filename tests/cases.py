@@ -34,8 +34,8 @@ def count(k, n):
 def tests(k, n, word):
     print("lyndon", k, n, digits(word), *lyndon_test(k, n, word))
     print("root", k, n, digits(word), *shortest_root(k, n, word))
-    fault, answer = rotation_of(k, n, word)
-    print("rotation", k, n, digits(word), fault, digits(into([7] * 8, list(answer))))
+    fault, turn, answer = rotation_of(k, n, word, 8)
+    print("rotation", k, n, digits(word), fault, digits(into([7] * 8, list(answer))), turn)
 
 
 def main():
@@ -55,6 +55,13 @@ def main():
         (2, 6, (1, 1, 1, 1, 1, 1)),
         (3, 2, (2, 3)),
         (3, 2, (2, 1, 0)),
+        (2, 6, (1, 0, 1, 0, 1, 0)),
+        (2, 4, (0, 0, 0, 0)),
+        (2, 4, (1, 1, 1, 1)),
+        (2, 4, (0, 1, 1, 0)),
+        (3, 1, (2,)),
+        (37, 1, (0,)),
+        (2, 9, (0, 0, 0, 0, 0, 0, 0, 0, 1)),
     ):
         tests(k, n, word)
 

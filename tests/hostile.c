@@ -6,11 +6,11 @@
 #include "lent.h"
 #include <limits.h>
 
-enum { RANK, WORD, MARK, PLACE, PRINT, LOOK, SMUDGED, CALLS };
+enum { TURN, RANK, WORD, MARK, PLACE, PRINT, LOOK, SMUDGED, CALLS };
 enum { SHADES = 36, LONGEST = 60, MOST_SECTIONS = 500, NUMBER = 8, LAYING = 10, UNREAD = 255, MOST_UNREAD = 2 };
 enum { MOST_WORD = 96, MOST_TRAY = 6000, MOST_PLAN = 9000 };
 #define MOST_PLACES ((uint64_t)1 << 60)
-static const char *const NAMES[CALLS] = {"rank_of", "word_of", "mark_at", "place_of", "print_marks", "look_up", "look_up_smudged"};
+static const char *const NAMES[CALLS] = {"turn_of", "rank_of", "word_of", "mark_at", "place_of", "print_marks", "look_up", "look_up_smudged"};
 
 /* The order of the refusals. Those that apply are a mask with a bit for each number; what is counted by number has room for every bit. */
 #define IN_ORDER(X) X(7) X(1) X(8) X(10) X(2) X(11) X(3) X(4) X(5) X(9) X(6)
@@ -80,12 +80,18 @@ static uint64_t lyndon_count(uint64_t k, uint64_t n) {
     return (uint64_t)sum / n;
 }
 
-static int is_lyndon(const uint8_t *word, size_t n) {
-    for (size_t turn = 1; turn < n; turn++) {
-        size_t i = 0;
-        while (i < n && word[i] == word[(turn + i) % n]) i++;
-        if (i == n || word[i] > word[(turn + i) % n]) return 0;
+/* two rotations of a word compared, as memcmp does */
+static int compare_turns(const uint8_t *word, size_t n, size_t one, size_t other) {
+    for (size_t i = 0; i < n; i++) {
+        int differ = word[(one + i) % n] - word[(other + i) % n];
+        if (differ != 0) return differ;
     }
+    return 0;
+}
+
+static int is_lyndon(const uint8_t *word, size_t n) {
+    for (size_t turn = 1; turn < n; turn++)
+        if (compare_turns(word, n, 0, turn) >= 0) return 0;
     return 1;
 }
 
@@ -178,6 +184,10 @@ static unsigned smudged_faults(const struct ask *a) {
     return some_laid(a, window, 0) ? 0 : 1u << 9;
 }
 
+static int takes_a_word(int call) {
+    return call == TURN || call == RANK || call == PLACE;
+}
+
 static size_t answer_length(const struct ask *a) {
     size_t marks = a->marks > SIZE_MAX ? SIZE_MAX : (size_t)a->marks;
     return a->call == WORD ? (size_t)a->n : a->call == PRINT ? marks : a->call == LOOK || a->call == SMUDGED ? LAYING : NUMBER;
@@ -194,7 +204,7 @@ static unsigned faults_of(const struct ask *a) {
     } else {
         int good = admitted(a->k, a->n, &places);
         if (!good) faults |= 1u << 1;
-        if (a->call == RANK || a->call == PLACE) faults |= word_faults(a->k, a->n, a->input, a->input_length);
+        if (takes_a_word(a->call)) faults |= word_faults(a->k, a->n, a->input, a->input_length);
         if (good && (a->call == MARK || a->call == PRINT) && a->number >= places) faults |= 1u << 4;
         if (good && a->call == WORD && (a->number == 0 || a->number > lyndon_count(a->k, a->n))) faults |= 1u << 5;
     }
@@ -210,7 +220,17 @@ static unsigned first_of(unsigned faults) {
     exit(3);
 }
 
-/* Answers by round trips */
+/* Answers by round trips, and the turn by what it means */
+
+/* no rotation is below the one by the turn, and none before it is the same */
+static int sound_turn(const struct ask *a, uint64_t turn) {
+    if (turn >= a->n) return 0;
+    for (size_t other = 0; other < a->n; other++) {
+        int differ = compare_turns(a->input, a->n, turn, other);
+        if (differ > 0 || (differ == 0 && other < turn)) return 0;
+    }
+    return 1;
+}
 
 static int sound_rank(const struct ask *a, uint64_t rank) {
     uint8_t word[LONGEST], next[LONGEST], tray[8];
@@ -266,6 +286,7 @@ static int sound_smudged(const struct ask *a, const uint8_t *answer) {
 static int sound(const struct ask *a, const uint8_t *answer) {
     round_trips[a->call]++;
     switch (a->call) {
+    case TURN: return sound_turn(a, number_in(answer, 8));
     case RANK: return sound_rank(a, number_in(answer, 8));
     case WORD: return sound_word(a, answer);
     case MARK: return sound_mark(a, number_in(answer, 8));
@@ -281,6 +302,7 @@ static int sound(const struct ask *a, const uint8_t *answer) {
 
 static unsigned call(const struct ask *a, const uint8_t *input, const uint8_t *plan, const struct lent *tray) {
     switch (a->call) {
+    case TURN: return turn_of(a->k, a->n, input, a->input_length, tray->bytes, tray->length);
     case RANK: return rank_of(a->k, a->n, input, a->input_length, tray->bytes, tray->length);
     case WORD: return word_of(a->k, a->n, a->number, tray->bytes, tray->length);
     case MARK: return mark_at(a->k, a->n, a->number, tray->bytes, tray->length);
@@ -341,10 +363,8 @@ static void all_sets(void) {
                 if (bad == 1 && lengths[l] != 0) word[lengths[l] - 1] = a.k > 255 ? 255 : (uint8_t)a.k;
                 if (bad == 2) word[0] = 255;
                 if (bad == 3) memset(word, 255, sizeof word);
-                a.call = RANK;
-                try_trays(a);
-                a.call = PLACE;
-                try_trays(a);
+                for (a.call = 0; a.call < CALLS; a.call++)
+                    if (takes_a_word(a.call)) try_trays(a);
             }
         a.input_length = 0;
         for (size_t i = 0; i < sizeof NUMBERS / sizeof *NUMBERS; i++) {
@@ -605,7 +625,7 @@ static void draw_call(void) {
     a.call = (int)below(CALLS);
     draw_strip(&a.k, &a.n);
     admitted(a.k, a.n, &places);
-    if (a.call == RANK || a.call == PLACE) a.input_length = draw_word(a.k, a.n, word);
+    if (takes_a_word(a.call)) a.input_length = draw_word(a.k, a.n, word);
     if (a.call == WORD) a.number = draw_number(admitted(a.k, a.n, &places) ? lyndon_count(a.k, a.n) : 100);
     if (a.call == MARK || a.call == PRINT) a.number = draw_number(places);
     if (a.call == PRINT) a.marks = below(8) == 0 ? draw() >> below(64) : below(below(8) == 0 ? 2000 : 100);

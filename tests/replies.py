@@ -51,12 +51,10 @@ def numbers_in(body):
 
 def word_lines(body):
     (k, n), lent, word = numbers_in(body[:16]), body[16], body[17:]
-    fault, rotation = model.rotation_of(k, n, word)
-    if not fault and lent < n:
-        fault, rotation = 6, b""
+    fault, turn, rotation = model.rotation_of(k, n, word, lent)
     yield line("is_lyndon", *model.lyndon_test(k, n, word))
     yield line("shortest_root", *model.shortest_root(k, n, word))
-    yield line("smallest_rotation", fault, *rotation.ljust(TRAY, bytes([BEFORE])))
+    yield line("smallest_rotation", fault, turn, *rotation.ljust(TRAY, bytes([BEFORE])))
     yield line("lyndon_count", *model.lyndon_count(k, n))
 
 

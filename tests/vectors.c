@@ -4,9 +4,9 @@
 #include "../include/strip.h"
 #include "lent.h"
 
-enum { RANK, WORD, MARK, PLACE, PRINT, LOOK, SMUDGED, CALLS };
+enum { TURN, RANK, WORD, MARK, PLACE, PRINT, LOOK, SMUDGED, CALLS };
 enum { MOST_BYTES = 1 << 14, MOST_TRAY = 64 };
-static const char *const NAMES[CALLS] = {"rank", "word", "mark", "place", "print", "look", "smudged"};
+static const char *const NAMES[CALLS] = {"turn", "rank", "word", "mark", "place", "print", "look", "smudged"};
 
 struct vector {
     int call;
@@ -96,7 +96,7 @@ static void parse(char *line) {
         v.k = number_field();
         v.n = number_field();
     }
-    if (of_plan || v.call == RANK || v.call == PLACE) v.input_length = bytes_field(v.input);
+    if (of_plan || v.call == TURN || v.call == RANK || v.call == PLACE) v.input_length = bytes_field(v.input);
     else v.number = number_field();
     if (v.call == PRINT) v.marks = number_field();
     v.refusal = (unsigned)number_field();
@@ -105,6 +105,7 @@ static void parse(char *line) {
 
 static unsigned call(const struct lent *input, const struct lent *plan, const struct lent *tray) {
     switch (v.call) {
+    case TURN: return turn_of(v.k, v.n, input->bytes, input->length, tray->bytes, tray->length);
     case RANK: return rank_of(v.k, v.n, input->bytes, input->length, tray->bytes, tray->length);
     case WORD: return word_of(v.k, v.n, v.number, tray->bytes, tray->length);
     case MARK: return mark_at(v.k, v.n, v.number, tray->bytes, tray->length);

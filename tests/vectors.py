@@ -1,9 +1,10 @@
 #!/usr/bin/env python3
 """Prints calls with their expected results, one a line, made with model.py; read by vectors.c.
 
-    rank  K N WORD        REFUSAL ANSWER        mark  K N PLACE       REFUSAL ANSWER
-    word  K N INDEX       REFUSAL ANSWER        print K N PLACE MARKS REFUSAL ANSWER
-    place K N WINDOW      REFUSAL ANSWER        look  PLAN WINDOW     REFUSAL ANSWER
+    turn  K N WORD        REFUSAL ANSWER        mark  K N PLACE       REFUSAL ANSWER
+    rank  K N WORD        REFUSAL ANSWER        print K N PLACE MARKS REFUSAL ANSWER
+    word  K N INDEX       REFUSAL ANSWER        look  PLAN WINDOW     REFUSAL ANSWER
+    place K N WINDOW      REFUSAL ANSWER
     smudged PLAN WINDOW   REFUSAL ANSWER,ANSWER,..   any of the answers is right
 
 Bytes are written in hexadecimal, no bytes as "-". An optional argument is the most places of a small strip, of which all is printed.
@@ -20,6 +21,11 @@ HUGE = (2**60, 2**60 + 1, 2**63, 2**64 - 1)
 
 def text(data):
     return bytes(data).hex() or "-"
+
+
+def turn(k, n, word):
+    fault, answer = model.turn_of(k, n, word)
+    print("turn", k, n, text(word), fault, text(answer))
 
 
 def rank(k, n, word):
@@ -57,7 +63,8 @@ def smudged(plan, window):
     print("smudged", text(plan), text(window), fault, ",".join(map(text, answers)) or "-")
 
 
-def both(k, n, marks_):
+def on_word(k, n, marks_):
+    turn(k, n, marks_)
     rank(k, n, marks_)
     place(k, n, marks_)
 
@@ -66,9 +73,9 @@ def both(k, n, marks_):
 
 def cases_of_the_rules():
     for written in ("00", "10", "20", "21", "22"):
-        both(3, 2, letters(written))
+        on_word(3, 2, letters(written))
     for shade in range(5):
-        both(4, 1, (shade,))
+        on_word(4, 1, (shade,))
     marks(4, 1, 0, 4)
     marks(3, 2, 0, 9)
     marks(2, 4, 0, 16)
@@ -78,11 +85,11 @@ def cases_of_the_rules():
         mark(3, 2, start)
         marks(3, 2, start, 3)
     for window in ((3, 0), (0, 3), (3, 3)):
-        both(3, 2, window)
+        on_word(3, 2, window)
     for written in ("000000", "100100", "101010", "010111", "111111", "100000", "011010"):
-        both(2, 6, letters(written))
+        on_word(2, 6, letters(written))
     for k, n in ((2, 60), (4, 30), (32, 12), (10, 18), (2, 61), (4, 31), (33, 12), (10, 19), (1, 5), (2, 0), (36, 11), (36, 12), (37, 1), (36, 1)):
-        both(k, n, (0,) * n)
+        on_word(k, n, (0,) * n)
         mark(k, n, 0)
         word(k, n, 1)
         marks(k, n, 0, 3)
@@ -113,7 +120,7 @@ def cases_of_document_003():
         assert model.word_of(2, 5, index) == (0, bytes(w))
         word(2, 5, index)
     for w in model.LENGTH_5:
-        both(2, 5, letters(w))
+        on_word(2, 5, letters(w))
 
 
 def cases_of_document_004():
@@ -122,7 +129,7 @@ def cases_of_document_004():
     for index, w in enumerate(model.ONLY_6, 1):
         assert model.word_of(2, 6, index) == (0, bytes(letters(w)))
         word(2, 6, index)
-        both(2, 6, letters(w))
+        on_word(2, 6, letters(w))
     marks(2, 6, 0, 64)
     start = 0
     for w in model.STRIP_6:
@@ -135,7 +142,7 @@ def cases_of_document_004():
 def whole_strip(k, n):
     strip = strip_of(k, n)
     for w in model.words(k, n):
-        both(k, n, w)
+        on_word(k, n, w)
     for index in list(range(strip.count() + 2)) + list(HUGE):
         word(k, n, index)
     for start in list(range(strip.places + 1)) + list(HUGE):
@@ -182,11 +189,11 @@ def topped(k, n, chance):
 def part_of_strip(k, n, chance, many):
     strip = strip_of(k, n)
     for tops in range(n + 1):
-        both(k, n, [k - 1] * tops + [0] * (n - tops))
-        both(k, n, [0] * tops + [k - 1] * (n - tops))
+        on_word(k, n, [k - 1] * tops + [0] * (n - tops))
+        on_word(k, n, [0] * tops + [k - 1] * (n - tops))
     for _ in range(many):
         for make in (runs, repeated, plain, topped):
-            both(k, n, tuple(make(k, n, chance)))
+            on_word(k, n, tuple(make(k, n, chance)))
     edges = [0, 1, n - 1, n, n + 1, strip.places // 2, strip.places // k, strip.places - n, strip.places - n + 1, strip.places - 1]
     for start in edges + [chance.randrange(strip.places) for _ in range(many // 2)]:
         mark(k, n, start)
@@ -217,7 +224,7 @@ def refusals():
             w = [0] * max(0, length)
             if bad is not None and w:
                 w[-1] = bad
-            both(k, n, w)
+            on_word(k, n, w)
         for value in (0, 1, 8, 63, 64, 80, 81, 82) + HUGE:
             word(k, n, value)
             mark(k, n, value)

@@ -1,5 +1,5 @@
 -- The form of an answer, for any fault f: a refusal (also as a check tells it), a tray that is too small, the answer itself.
-use mathlib.Core.Path.{_≡_, refl, sym, _∙_, ap, ap₂}
+use mathlib.Core.Path.{_≡_, refl, sym, _∙_, ap, ap₂, subst}
 use mathlib.Core.List.{List, [], _++_}
 use Prim.Native.Nat.{ℕ, zero, suc, _≤_, _<_}
 use lib.Dec.{eqb}
@@ -12,7 +12,7 @@ use Rattle.calls.specs.declared.Value as DV
 use Rattle.calls.specs.declared.Checked.{Checked}
 use Rattle.calls.specs.declared.Checked.the-variants.{Refused}
 use Rattle.calls.specs.Checks.{Checks}
-use Rattle.calls.specs.Answers.{Into, Number, ValueIs}
+use Rattle.calls.specs.Answers.{Into, IntoValue, Number, ValueIs}
 use Rattle.calls.proofs.Checks.{refused-by}
 
 -- a number and a value
@@ -42,6 +42,21 @@ into-answer b t h l e g = rw (h, le-ltb (length t) (length b) l) (e, g)
 -- an answer that was given, where nothing was refused before
 pub into-given : {f r : ℕ} {b x : List ℕ} (t : List ℕ) {t′ : List ℕ} → f ≡ 0 → x ≡ b → Into 0 x t t′ r → Into f (pick (eqb f 0) b []) t t′ r
 into-given t h e g = rw (h, sym e) g
+
+-- bytes into a tray and a value beside them
+pub beside-refused-by : (f k n v : ℕ) (b t : List ℕ) {c : Checked} {x : ℕ} {t′ : List ℕ} {r : DV.Value} → Checks f k n c → c ≡ Refused x → t′ ≡ t
+    → (r .number ≡ x) × (r .value ≡ 0) → IntoValue f v (pick (eqb f 0) b []) t t′ r
+beside-refused-by f k n v b t {x = x} {t′ = t′} e g h a =
+    let (_, some) = refused-by f k n e g in
+    (subst (Into f (pick (eqb f 0) b []) t t′) (sym (a .0)) (into-refused-by f k n b t e g h), rw (a .0, ne-eqb x 0 some) (a .1))
+
+pub beside-small : {f : ℕ} (v : ℕ) (b t : List ℕ) {t′ : List ℕ} {r : DV.Value} → f ≡ 0 → length t < length b → (r .number ≡ 6) × (r .value ≡ 0) → t′ ≡ t
+    → IntoValue f v (pick (eqb f 0) b []) t t′ r
+beside-small v b t h l a g = (into-small b t h l (a .0) g, rw (a .0) (a .1))
+
+pub beside-answer : {f v x : ℕ} (b t : List ℕ) {t′ : List ℕ} {r : DV.Value} → f ≡ 0 → length b ≤ length t → x ≡ v → (r .number ≡ 0) × (r .value ≡ x)
+    → t′ ≡ over b t → IntoValue f v (pick (eqb f 0) b []) t t′ r
+beside-answer b t h l e a g = (into-answer b t h l (a .0) g, rw (a .0) (a .1 ∙ e))
 
 -- a number's 8 bytes into a tray
 pub number-refused-by : (f k n v : ℕ) (t : List ℕ) {c : Checked} {x : ℕ} {t′ : List ℕ} → Checks f k n c → c ≡ Refused x → t′ ≡ t → Number f v t t′ x

@@ -13,6 +13,10 @@ use Rattle.calls.specs.declared.Value as DV
 abbrev pub Into : ℕ → List ℕ → List ℕ → List ℕ → ℕ → Type 0
 Into f b t t′ r = let n = firstOf f (when (ltb (length t) (length b)) 6) in (r ≡ n) × (t′ ≡ pick (eqb n 0) (over b t) t)
 
+-- and a value beside the bytes; a refusal's value is 0, that of a tray too
+abbrev pub IntoValue : ℕ → ℕ → List ℕ → List ℕ → List ℕ → DV.Value → Type 0
+IntoValue f v b t t′ r = Into f b t t′ (r .number) × (r .value ≡ pick (eqb (r .number) 0) v 0)
+
 -- a number as 8 bytes
 abbrev pub Number : ℕ → ℕ → List ℕ → List ℕ → ℕ → Type 0
 Number f v t t′ r = Into f (pick (eqb f 0) (putBe 8 v) []) t t′ r

@@ -104,13 +104,15 @@ fn tests(k: u64, n: u64, word: &[u8]) {
     space();
     answered(words::shortest_root(k, n, word));
     let mut tray = [7u8; 8];
-    let number = words::smallest_rotation(k, n, word, &mut tray);
+    let rotation = words::smallest_rotation(k, n, word, &mut tray);
     asked(b"rotation", k, n);
     letters(word);
     space();
-    io::print_decimal(1, number as u64);
+    io::print_decimal(1, rotation.number as u64);
     space();
     letters(&tray);
+    space();
+    io::print_decimal(1, rotation.value);
     io::write_all(1, b"\n");
 }
 
@@ -141,6 +143,17 @@ fn lists() {
     rank(2, 6, &[0, 1, 0, 1, 1, 1]);
 }
 
+// Turns: 1 of 101010, none of a letter repeated; a word of one letter; no such strip; a tray one byte too small.
+fn turns() {
+    tests(2, 6, &[1, 0, 1, 0, 1, 0]);
+    tests(2, 4, &[0, 0, 0, 0]);
+    tests(2, 4, &[1, 1, 1, 1]);
+    tests(2, 4, &[0, 1, 1, 0]);
+    tests(3, 1, &[2]);
+    tests(37, 1, &[0]);
+    tests(2, 9, &[0, 0, 0, 0, 0, 0, 0, 0, 1]);
+}
+
 // The cases, in the order of tests/cases.py.
 fn main() {
     small_strips();
@@ -151,4 +164,5 @@ fn main() {
     tests(2, 6, &[1, 1, 1, 1, 1, 1]);
     tests(3, 2, &[2, 3]);
     tests(3, 2, &[2, 1, 0]);
+    turns();
 }

@@ -1,9 +1,9 @@
 -- The promise, whole.
 use Rattle.theory.proofs.Theorems.{theorems}
 use Rattle.demands.specs.Demands.{Demands}
-use Rattle.demands.proofs.Trays.{trays, no-value, number-back}
+use Rattle.demands.proofs.Trays.{trays, no-value, no-value-beside, number-back}
 use Rattle.demands.proofs.Refused.{refusals}
-use Rattle.demands.proofs.Words.{lyndon, rotation, root-told, count, ranked, unranked, word-back, rank-back}
+use Rattle.demands.proofs.Words.{lyndon, rotation, turn, root-told, count, ranked, unranked, word-back, rank-back}
 use Rattle.demands.proofs.Marks.{marked, placed, place-back, window-back, printed}
 use Rattle.demands.proofs.Walking.{started, not-started, stands, step, not-stepped, undone, walk, both-ways}
 use Rattle.demands.proofs.Laying.{laid, laid-only, smudged, smudged-only, smudged-plain}
@@ -14,9 +14,11 @@ demands = record {
   refusals = refusals;
   trays = trays;
   no-value = no-value;
+  no-value-beside = no-value-beside;
   number-back = number-back;
   lyndon = λ k n w r a e m f. lyndon k n w a e m r f;
   rotation = λ k n w t t′ r a e m x f. rotation k n w a e m t t′ r x f;
+  turn = λ k n w t t′ r a e m x f. turn k n w a e m t t′ r x f;
   root = λ k n w r a e m f. root-told k n w a e m r f;
   count = count;
   ranked = λ k n w t t′ r a e m x f. let (number, _, told) = ranked k n w a e m t t′ r x f in (number, told);

@@ -26,7 +26,7 @@ use Rattle.lookups.specs.Says.{answerSize}
 use Rattle.cursors.specs.declared.Cursor as DC
 use Rattle.cursors.specs.Cursors.{cursorIn, tidy, cursorFault}
 use Rattle.demands.specs.Refused.{markRules, wordRules, placeRules, indexRules, cursorRules, planRules, layingRules, smudgedRules, trayRules, Refusals}
-use Rattle.demands.proofs.Trays.{answer-number, rotation-answers, rank-answers, word-answers, mark-answers, place-answers, print-answers, look-up-answers, smudged-answers}
+use Rattle.demands.proofs.Trays.{answer-number, rotation-answers, turn-answers, rank-answers, word-answers, mark-answers, place-answers, print-answers, look-up-answers, smudged-answers}
 use Rattle.calls.proofs.Numbers.{strip-number, marks-number, word-number, place-number, cursor-number, plan-number, word-tray-number, place-tray-number, index-tray-number, laying-tray-number, smudged-tray-number}
 
 -- the faults of each kind of argument, alone and with a tray of m bytes
@@ -110,6 +110,7 @@ refusals = record {
   first = given-first;
   is-lyndon = λ k n w r e. e .0 ∙ word-given k n w;
   smallest-rotation = λ k n w t t′ r e. answer-number (rotation-answers k n w t t′ r e) ∙ word-tray k n w t n;
+  turn-of = λ k n w t t′ r e. answer-number (turn-answers k n w t t′ r e) ∙ word-tray k n w t 8;
   shortest-root = λ k n w r e. e .0 ∙ word-given k n w;
   lyndon-count = λ k n r e. e .0 ∙ strip-number (not (admitted k n));
   rank-of = λ k n w t t′ r e. answer-number (rank-answers k n w t t′ r e) ∙ word-tray k n w t 8;

@@ -10,7 +10,7 @@ use lib.Dec.{eqb, ltb}
 use lib.ListN.{length, drop}
 use lib.Seq.{drop-append-seam}
 use borrow.Author.Tests.{le-ltb, ltb-false, ne-eqb}
-use Rattle.theory.specs.Words.{pick, pickT, firstOf, when, smallest, wordOf, rank}
+use Rattle.theory.specs.Words.{pick, pickT, firstOf, when, smallest, leastTurn, wordOf, rank}
 use Rattle.theory.specs.Strips.{admitted, stripFault, markAt, marksFrom, placeOf, strip}
 use Rattle.theory.specs.Plans.{be, shades, marks, lookupFault}
 use Rattle.theory.specs.Erasures.{smudgedFault}
@@ -24,11 +24,11 @@ use Rattle.numbers.specs.Numbers.{putBe}
 use Rattle.buffers.proofs.Bytes.{over-length}
 use Rattle.numbers.proofs.Numbers.{put-read}
 use Rattle.calls.specs.declared.Value as DV
-use Rattle.calls.specs.Answers.{Into, Number, ValueIs}
+use Rattle.calls.specs.Answers.{Into, IntoValue, Number, ValueIs}
 use Rattle.calls.specs.Refusals.{theWordFault, indexFault, placeFault}
 use Rattle.calls.proofs.Answers.{into-given}
 use Rattle.ranking.proofs.Indexes.{index-range, index-long}
-use Rattle.words.specs.Says.{RotationSays}
+use Rattle.words.specs.Says.{RotationSays, TurnSays}
 use Rattle.ranking.specs.Says.{RankSays, WordSays}
 use Rattle.marks.specs.Says.{MarkSays, PlaceSays, PrintSays}
 use Rattle.lookups.specs.Says.{answerAt, answerSize, LookupSays, Picked, SmudgedSays}
@@ -54,6 +54,17 @@ value-fine {v = v} {r = r} h e = subst (λ x. ValueIs x v r) h e
 pub no-value : (f v : ℕ) (r : DV.Value) → ValueIs f v r → r .number ≢ 0 → r .value ≡ 0
 no-value zero v r e h = absurd (h (e .0))
 no-value (suc f) v r e h = rw (ne-eqb (suc f) 0 (λ z. omega arith)) at (e .1)
+
+-- bytes in a tray and a value beside them
+pub beside-fine : (f v : ℕ) (b t : List ℕ) {t′ : List ℕ} {r : DV.Value} → f ≡ 0 → length b ≤ length t → IntoValue f v (pick (eqb f 0) b []) t t′ r
+    → (r .number ≡ 0) × (r .value ≡ v) × (t′ ≡ over b t)
+beside-fine f v b t h l e =
+    let (number, is) = into-fine f b t h l (e .0) in
+    let value = rw number at e .1 in
+    (number, value, is)
+
+pub no-value-beside : (f v : ℕ) (b t t′ : List ℕ) (r : DV.Value) → IntoValue f v b t t′ r → r .number ≢ 0 → r .value ≡ 0
+no-value-beside f v b t t′ r e h = rw (ne-eqb (r .number) 0 h) at (e .1)
 
 -- places, ranks and counts stay below 2^64
 pub small : (k n : ℕ) {v : ℕ} → admitted k n ≡ true → v ≤ k ^ n → v < 2 ^ 64
@@ -118,8 +129,11 @@ index-word-long : (k n i : ℕ) → indexFault k n i ≡ 0 → length (wordOf k 
 index-word-long k n i z = let (some, few) = index-range k n i z in index-long k n i some few
 
 -- each call with a tray
-pub rotation-answers : (k n : ℕ) (w t t′ : List ℕ) (r : ℕ) → RotationSays k n w t t′ r → Answers n (theWordFault k n w) t t′ r
-rotation-answers k n w t t′ r e = answers (smallest w) (rotation-long k n w) e
+pub rotation-answers : (k n : ℕ) (w t t′ : List ℕ) (r : DV.Value) → RotationSays k n w t t′ r → Answers n (theWordFault k n w) t t′ (r .number)
+rotation-answers k n w t t′ r e = answers (smallest w) (rotation-long k n w) (e .0)
+
+pub turn-answers : (k n : ℕ) (w t t′ : List ℕ) (r : ℕ) → TurnSays k n w t t′ r → Answers 8 (theWordFault k n w) t t′ r
+turn-answers k n w t t′ r e = answers (putBe 8 (leastTurn w)) (λ _. refl) e
 
 pub rank-answers : (k n : ℕ) (w t t′ : List ℕ) (r : ℕ) → RankSays k n w t t′ r → Answers 8 (theWordFault k n w) t t′ r
 rank-answers k n w t t′ r e = answers (putBe 8 (rank k w)) (λ _. refl) e
@@ -157,6 +171,7 @@ smudged-answers s w t t′ r e = elim (ℕ-discrete (smudgedFault s w) 0) [
 pub trays : Trays
 trays = record {
   smallest-rotation = λ k n w t t′ r e. keeps (rotation-answers k n w t t′ r e);
+  turn-of = λ k n w t t′ r e. keeps (turn-answers k n w t t′ r e);
   rank-of = λ k n w t t′ r e. keeps (rank-answers k n w t t′ r e);
   word-of = λ k n i t t′ r e. keeps (word-answers k n i t t′ r e);
   mark-at = λ k n p t t′ r e. keeps (mark-answers k n p t t′ r e);

@@ -21,10 +21,11 @@ use Rattle.buffers.specs.Buffers.{over}
 use Rattle.numbers.specs.Numbers.{putBe}
 use Rattle.calls.specs.declared.Value as DV
 use Rattle.calls.specs.Refusals.{theWordFault, indexFault}
-use Rattle.words.specs.Says.{LyndonSays, RotationSays, RootSays}
+use Rattle.words.specs.Says.{LyndonSays, RotationSays, TurnSays, RootSays}
 use Rattle.ranking.specs.Says.{ManySays, RankSays, WordSays}
+use Rattle.demands.specs.Demands.{Turn-told}
 use Rattle.demands.proofs.Faults.{strip-faultless, word-faultless, index-faultless}
-use Rattle.demands.proofs.Trays.{into-fine, number-fine, tray-back, small, value-fine}
+use Rattle.demands.proofs.Trays.{into-fine, number-fine, tray-back, small, value-fine, beside-fine}
 
 many-small : (k n : ℕ) → howMany k n ≤ k ^ n
 many-small k n = omega (arith, keep-length isLyndon (allWords k n), all-count k n)
@@ -50,13 +51,29 @@ module _ (k n : ℕ) (w : List ℕ) (a : admitted k n ≡ true) (e : length w �
           let none : r .value ≡ 0 = value ∙ ap (λ b. pick {A = ℕ} b 1 0) t in
           (number, omega arith, (λ one. absurd (omega arith), λ g. absurd (false≢true (sym t ∙ word-laws .lyndon-turns w .1 (omega (arith, admitted-limits k n a .some), λ i x y. g i x (omega arith))))))
 
-  pub rotation : (t t′ : List ℕ) (r : ℕ) → n ≤ length t → RotationSays k n w t t′ r
-      → (r ≡ 0) × (take n t′ ≡ turned (leastTurn w) w) × ((i : ℕ) → upTo (take n t′) (turned i w) ≡ true)
+  -- the least turn is the one to tell
+  told-turn : Turn-told w (leastTurn w)
+  told-turn =
+      let some : 1 ≤ length w = omega (arith, e, admitted-limits k n a .some) in
+      let turns = word-laws .turns in
+      record {
+        inside = omega (arith, turns .within-root w some, word-laws .root-some w some .1);
+        lowest = λ i. ap (λ u. upTo u (turned i w)) (turns .reaches w) ∙ word-laws .smallest-least w i;
+        first = λ j h is. omega (arith, turns .least w j (is ∙ turns .reaches w));
+      }
+
+  pub rotation : (t t′ : List ℕ) (r : DV.Value) → n ≤ length t → RotationSays k n w t t′ r
+      → (r .number ≡ 0) × (t′ ≡ over (turned (r .value) w) t) × Turn-told w (r .value)
   rotation t t′ r x f =
-      let long : length (smallest w) ≡ n = smallest-length w ∙ e in
-      let turned-it = into-fine (theWordFault k n w) (smallest w) t fine (omega (arith, long)) f in
-      let is : take n t′ ≡ smallest w = ap (take n) (turned-it .1) ∙ take-at (smallest w) _ n long in
-      (turned-it .0, is ∙ sym (word-laws .turns .reaches w), λ i. ap (λ u. upTo u (turned i w)) is ∙ word-laws .smallest-least w i)
+      let (number, value, is) = beside-fine (theWordFault k n w) (leastTurn w) (smallest w) t fine (omega (arith, smallest-length w)) f in
+      let by : smallest w ≡ turned (r .value) w = sym (ap (λ i. turned i w) value ∙ word-laws .turns .reaches w) in
+      (number, is ∙ ap (λ u. over u t) by, subst (Turn-told w) (sym value) told-turn)
+
+  pub turn : (t t′ : List ℕ) (r : ℕ) → 8 ≤ length t → TurnSays k n w t t′ r → (r ≡ 0) × Turn-told w (be 0 8 t′)
+  turn t t′ r x f =
+      let found = number-fine (theWordFault k n w) (leastTurn w) t fine x f in
+      let short : leastTurn w < 2 ^ 64 = omega (arith, told-turn .inside, e, admitted-limits k n a .short) in
+      (found .0, subst (Turn-told w) (sym (tray-back (leastTurn w) t short (found .1))) told-turn)
 
   pub root-told : (r : DV.Value) → RootSays k n w r
       → (r .number ≡ 0) × (1 ≤ r .value) × (powerTo n (take (r .value) w) ≡ w) × ((u : List ℕ) (d : ℕ) → w ≡ repeated d u → r .value ≤ length u)

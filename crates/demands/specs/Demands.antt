@@ -6,7 +6,7 @@ use mathlib.Core.List.{List, []}
 use mathlib.Core.Logic.{_↔_, _≢_}
 use Prim.Native.Nat.{ℕ, suc, _+_, _^_, _≤_, _<_}
 use lib.ListN.{length, getD, take, drop, replicate}
-use Rattle.theory.specs.Words.{below, upTo, turned, leastTurn, repeated, powerTo, keep, marksOk, isLyndon, howMany, rank, wordOf}
+use Rattle.theory.specs.Words.{below, upTo, turned, repeated, powerTo, keep, marksOk, isLyndon, howMany, rank, wordOf}
 use Rattle.theory.specs.Rings.{modulo, pathEnd, pathLetters}
 use Rattle.theory.specs.Strips.{admitted, strip, markAt, marksFrom, window, placeIn}
 use Rattle.theory.specs.Plans.{be, shades, marks, sectionCount, sections, nthS, planFault, layingAt, laidAt}
@@ -15,8 +15,8 @@ use Rattle.theory.specs.Theorems.{Theorems}
 use Rattle.buffers.specs.Buffers.{over}
 use Rattle.numbers.specs.Numbers.{putBe}
 use Rattle.calls.specs.declared.Value as DV
-use Rattle.calls.specs.Answers.{ValueIs}
-use Rattle.words.specs.Says.{LyndonSays, RotationSays, RootSays}
+use Rattle.calls.specs.Answers.{IntoValue, ValueIs}
+use Rattle.words.specs.Says.{LyndonSays, RotationSays, TurnSays, RootSays}
 use Rattle.ranking.specs.Says.{ManySays, RankSays, WordSays}
 use Rattle.marks.specs.Says.{MarkSays, PlaceSays, PrintSays}
 use Rattle.lookups.specs.Says.{answerSize, LookupSays, SmudgedSays}
@@ -28,21 +28,30 @@ use Rattle.demands.specs.Refused.{Refusals}
 use Rattle.demands.specs.Trays.{Trays}
 use Rattle.demands.specs.Walked.{Says, Steps-on, Walked, Followed, fields, passedFrom, pathPassed}
 
+-- the turn of a word that is told: the rotation by it is not above any, and no smaller turn gives that rotation
+pub record Turn-told (w : List ℕ) (v : ℕ) : Type 0 where
+  pub inside : v < length w
+  pub lowest : (i : ℕ) → upTo (turned v w) (turned i w) ≡ true
+  pub first : (j : ℕ) → j < v → turned j w ≢ turned v w
+
 pub record Demands : Type 0 where
   pub theorems : Theorems
   -- call by call: which number is given when, and what stays in a tray
   pub refusals : Refusals
   pub trays : Trays
-  -- a refusal's value is 0
+  -- a refusal's value is 0, also beside a tray
   pub no-value : (f v : ℕ) (r : DV.Value) → ValueIs f v r → r .number ≢ 0 → r .value ≡ 0
+  pub no-value-beside : (f v : ℕ) (b t t′ : List ℕ) (r : DV.Value) → IntoValue f v b t t′ r → r .number ≢ 0 → r .value ≡ 0
   -- a number is read back from its 8 bytes
   pub number-back : (v : ℕ) → v < 2 ^ 64 → be 0 8 (putBe 8 v) ≡ v
   -- Words: is_lyndon answers 1 for a word that is smaller than each of its proper rotations, 0 for any other
   pub lyndon : (k n : ℕ) (w : List ℕ) (r : DV.Value) → admitted k n ≡ true → length w ≡ n → marksOk k w ≡ true → LyndonSays k n w r
       → (r .number ≡ 0) × (r .value ≤ 1) × ((r .value ≡ 1) ↔ ((i : ℕ) → 1 ≤ i → i < n → below w (turned i w) ≡ true))
-  -- smallest_rotation writes a rotation that is not above any
-  pub rotation : (k n : ℕ) (w t t′ : List ℕ) (r : ℕ) → admitted k n ≡ true → length w ≡ n → marksOk k w ≡ true → n ≤ length t → RotationSays k n w t t′ r
-      → (r ≡ 0) × (take n t′ ≡ turned (leastTurn w) w) × ((i : ℕ) → upTo (take n t′) (turned i w) ≡ true)
+  -- smallest_rotation answers the turn, and writes the word turned by so many letters; turn_of writes the turn
+  pub rotation : (k n : ℕ) (w t t′ : List ℕ) (r : DV.Value) → admitted k n ≡ true → length w ≡ n → marksOk k w ≡ true → n ≤ length t
+      → RotationSays k n w t t′ r → (r .number ≡ 0) × (t′ ≡ over (turned (r .value) w) t) × Turn-told w (r .value)
+  pub turn : (k n : ℕ) (w t t′ : List ℕ) (r : ℕ) → admitted k n ≡ true → length w ≡ n → marksOk k w ≡ true → 8 ≤ length t → TurnSays k n w t t′ r
+      → (r ≡ 0) × Turn-told w (be 0 8 t′)
   -- shortest_root answers how many first letters, repeated, give the word; no shorter word does
   pub root : (k n : ℕ) (w : List ℕ) (r : DV.Value) → admitted k n ≡ true → length w ≡ n → marksOk k w ≡ true → RootSays k n w r
       → (r .number ≡ 0) × (1 ≤ r .value) × (powerTo n (take (r .value) w) ≡ w) × ((u : List ℕ) (e : ℕ) → w ≡ repeated e u → r .value ≤ length u)

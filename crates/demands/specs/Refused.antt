@@ -14,7 +14,7 @@ use Rattle.theory.specs.Plans.{shades, marks, sectionCount, sections, nthS, tor
 use Rattle.theory.specs.Erasures.{unread, read, agrees, fitting}
 use Rattle.calls.specs.declared.Value as DV
 use Rattle.calls.specs.Order.{order, Rule, rule, appliesIn, given}
-use Rattle.words.specs.Says.{LyndonSays, RotationSays, RootSays}
+use Rattle.words.specs.Says.{LyndonSays, RotationSays, TurnSays, RootSays}
 use Rattle.ranking.specs.Says.{ManySays, RankSays, WordSays}
 use Rattle.marks.specs.Says.{MarkSays, PlaceSays, PrintSays}
 use Rattle.lookups.specs.Says.{answerSize, PlanSays, LookupSays, SmudgedSays}
@@ -67,7 +67,8 @@ pub record Refusals : Type 0 where
       → (given rules ≡ f) ↔ ((appliesIn f rules ≡ true) × ((g : ℕ) → In g before → appliesIn g rules ≡ false))
   -- each call
   pub is-lyndon : (k n : ℕ) (w : List ℕ) (r : DV.Value) → LyndonSays k n w r → r .number ≡ given (wordRules k n w)
-  pub smallest-rotation : (k n : ℕ) (w t t′ : List ℕ) (r : ℕ) → RotationSays k n w t t′ r → r ≡ given (wordRules k n w ++ trayRules t n)
+  pub smallest-rotation : (k n : ℕ) (w t t′ : List ℕ) (r : DV.Value) → RotationSays k n w t t′ r → r .number ≡ given (wordRules k n w ++ trayRules t n)
+  pub turn-of : (k n : ℕ) (w t t′ : List ℕ) (r : ℕ) → TurnSays k n w t t′ r → r ≡ given (wordRules k n w ++ trayRules t 8)
   pub shortest-root : (k n : ℕ) (w : List ℕ) (r : DV.Value) → RootSays k n w r → r .number ≡ given (wordRules k n w)
   pub lyndon-count : (k n : ℕ) (r : DV.Value) → ManySays k n r → r .number ≡ given (stripRules k n)
   pub rank-of : (k n : ℕ) (w t t′ : List ℕ) (r : ℕ) → RankSays k n w t t′ r → r ≡ given (wordRules k n w ++ trayRules t 8)

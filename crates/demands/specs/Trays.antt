@@ -4,7 +4,8 @@ use mathlib.Core.List.{List}
 use mathlib.Core.Logic.{_≢_}
 use Prim.Native.Nat.{ℕ}
 use lib.ListN.{length, drop}
-use Rattle.words.specs.Says.{RotationSays}
+use Rattle.calls.specs.declared.Value as DV
+use Rattle.words.specs.Says.{RotationSays, TurnSays}
 use Rattle.ranking.specs.Says.{RankSays, WordSays}
 use Rattle.marks.specs.Says.{MarkSays, PlaceSays, PrintSays}
 use Rattle.lookups.specs.Says.{answerSize, LookupSays, SmudgedSays}
@@ -14,7 +15,8 @@ abbrev pub Keeps : ℕ → List ℕ → List ℕ → ℕ → Type 0
 Keeps b t t′ r = (r ≢ 0 → t′ ≡ t) × (length t′ ≡ length t) × (drop b t′ ≡ drop b t)
 
 pub record Trays : Type 0 where
-  pub smallest-rotation : (k n : ℕ) (w t t′ : List ℕ) (r : ℕ) → RotationSays k n w t t′ r → Keeps n t t′ r
+  pub smallest-rotation : (k n : ℕ) (w t t′ : List ℕ) (r : DV.Value) → RotationSays k n w t t′ r → Keeps n t t′ (r .number)
+  pub turn-of : (k n : ℕ) (w t t′ : List ℕ) (r : ℕ) → TurnSays k n w t t′ r → Keeps 8 t t′ r
   pub rank-of : (k n : ℕ) (w t t′ : List ℕ) (r : ℕ) → RankSays k n w t t′ r → Keeps 8 t t′ r
   pub word-of : (k n i : ℕ) (t t′ : List ℕ) (r : ℕ) → WordSays k n i t t′ r → Keeps n t t′ r
   pub mark-at : (k n p : ℕ) (t t′ : List ℕ) (r : ℕ) → MarkSays k n p t t′ r → Keeps 8 t t′ r

@@ -112,13 +112,14 @@ fn number(given: &[u8], at: usize) -> u64
     half(given, at) * 4294967296 + half(given, at + 4)
 }
 
-// The line of smallest_rotation: its number, then the whole tray, of which the first bytes were lent.
+// The line of smallest_rotation: its number, its value, then the whole tray, of which the first bytes were lent.
 fn rotated(k: u64, n: u64, word: &[u8], lent: usize, tray: &mut [u8])
     requires { ⌜ lent ≤ length (now tray) ⌝ }
 {
-    let refused = words::smallest_rotation(k, n, word, &mut tray[..lent]);
+    let answer = words::smallest_rotation(k, n, word, &mut tray[..lent]);
     io::write_all(1, b"smallest_rotation");
-    byte(refused);
+    byte(answer.number);
+    field(answer.value);
     bytes(tray);
     end();
 }

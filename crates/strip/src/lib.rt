@@ -1,7 +1,16 @@
 // The boundary for C: each call is one line that calls its family, with the family's promise. include/strip.h declares them.
+ghost use Rattle.words.specs.Says.{TurnSays};
 ghost use Rattle.ranking.specs.Says.{RankSays, WordSays};
 ghost use Rattle.marks.specs.Says.{MarkSays, PlaceSays, PrintSays};
 ghost use Rattle.lookups.specs.Says.{LookupSays, SmudgedSays};
+
+// The turn from a word to its smallest rotation, as 8 bytes.
+#[no_mangle]
+pub extern "C" fn turn_of(k: u64, n: u64, word: &[u8], tray: &mut [u8]) -> u8
+    ensures { λ r. ⌜ TurnSays k n (now (word .entry)) (now (tray .entry)) (now (tray .exit)) r ⌝ }
+{
+    words::turn_of(k, n, word, tray)
+}
 
 // The rank of a word, as 8 bytes.
 #[no_mangle]

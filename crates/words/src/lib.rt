@@ -1,6 +1,6 @@
-// Calls on one word: is it a Lyndon word, its smallest rotation, its shortest root. A faulty argument gets its number from the table of
+// Calls on one word: is it a Lyndon word, its smallest rotation and the turn to it, its shortest root. A faulty argument gets its number from the table of
 // refusals, and every tray is then as it was.
-ghost use Rattle.words.specs.Says.{LyndonSays, RotationSays, RootSays};
+ghost use Rattle.words.specs.Says.{LyndonSays, RotationSays, TurnSays, RootSays};
 use calls::Checked;
 use calls::Value;
 use calls::refusals;
@@ -26,20 +26,34 @@ pub fn is_lyndon(k: u64, n: u64, word: &[u8]) -> Value
     }
 }
 
-// The smallest rotation, in the tray's first n bytes.
-pub fn smallest_rotation(k: u64, n: u64, word: &[u8], tray: &mut [u8]) -> u8
+// The smallest rotation, in the tray's first n bytes; the value is the least turn that gives it.
+pub fn smallest_rotation(k: u64, n: u64, word: &[u8], tray: &mut [u8]) -> Value
     ensures { λ r. ⌜ RotationSays k n (now (word .entry)) (now (tray .entry)) (now (tray .exit)) r ⌝ }
 {
     match calls::check_word(k, n, word) {
-        Checked::Refused(number) => number,
+        Checked::Refused(number) => Value { number, value: 0 },
         Checked::Strip(_) => {
             if tray.len() < word.len() {
-                return refusals::TRAY_TOO_SMALL;
+                return Value {
+                    number: refusals::TRAY_TOO_SMALL,
+                    value: 0,
+                };
             }
-            let turn = rotations::least_turn(word);
-            buffers::copy_turned(word, turn, tray);
-            0
+            Value {
+                number: 0,
+                value: rotations::smallest(word, tray) as u64,
+            }
         }
+    }
+}
+
+// The turn to the smallest rotation alone, as 8 bytes.
+pub fn turn_of(k: u64, n: u64, word: &[u8], tray: &mut [u8]) -> u8
+    ensures { λ r. ⌜ TurnSays k n (now (word .entry)) (now (tray .entry)) (now (tray .exit)) r ⌝ }
+{
+    match calls::check_word(k, n, word) {
+        Checked::Refused(number) => number,
+        Checked::Strip(_) => calls::give(rotations::least_turn(word) as u64, tray),
     }
 }
 

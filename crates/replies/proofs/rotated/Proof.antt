@@ -23,6 +23,9 @@ write-all-requires c κs = search needs
 byte-requires : tie.Need-byte-requires
 byte-requires c κs = search needs
 
+field-requires : tie.Need-field-requires
+field-requires c κs = search needs
+
 bytes-requires : tie.Need-bytes-requires
 bytes-requires c κs = search needs
 
@@ -45,6 +48,7 @@ rotated-spec =
     slice-aggregate-write-all
     write-all-requires
     byte-requires
+    field-requires
     bytes-requires
     end-requires
     same-length

@@ -1,14 +1,12 @@
--- `smallest_rotation` puts the smallest rotation into the tray: the turn to it is least, and a refusal leaves the tray as it was.
-use mathlib.Core.Path.{_≡_, refl, _∙_, ap}
+-- `smallest_rotation` puts the smallest rotation into the tray and answers the turn to it; a refusal leaves the tray as it was, and its value is 0.
+use mathlib.Core.Path.{_≡_, refl}
 use native.Mathlib.Omega.{arith}
 use borrow.Author.Needs.{needs}
-use Rattle.theory.specs.Words.{turned, smallest, leastTurn}
+use Rattle.theory.specs.Words.{smallest, leastTurn}
 use Rattle.theory.proofs.Necklaces.{smallest-length}
-use Rattle.buffers.specs.Buffers.{over}
-use Rattle.theory.proofs.Turns.{least-turn-smallest, turn-fits}
 use Rattle.calls.specs.Refusals.{theWordFault}
 use Rattle.calls.proofs.Checks.{passed}
-use Rattle.calls.proofs.Answers.{into-refused-by, into-small, into-answer}
+use Rattle.calls.proofs.Answers.{beside-refused-by, beside-small, beside-answer}
 use Rattle.words.proofs.smallest_rotation.Statement.{statement}
 use Rattle.words.proofs.smallest_rotation.Tie as tie
 
@@ -34,38 +32,31 @@ returns : tie.Need-returns
 returns c =
     let known = c .before in
     let a = known .before .before .before .before .before .args in
-    into-small (smallest (a .word .now)) (a .tray .now) (none known) (omega (arith, smallest-length (a .word .now))) refl refl
+    let w = a .word .now in
+    beside-small (leastTurn w) (smallest w) (a .tray .now) (none known) (omega (arith, smallest-length w)) (refl, refl) refl
 
-least-turn-requires : tie.Need-least-turn-requires
-least-turn-requires c κs = search needs
-
-copy-turned-requires : tie.Need-copy-turned-requires
-copy-turned-requires c κs =
-    let turn = c .before in
-    let a = turn .before .before .before .before .before .before .before .args in
-    let e : turn .least-turn .result ≡ leastTurn (a .word .now) = turn .least-turn .ensures in
-    (omega (arith, turn-fits (a .word .now)), omega arith)
+smallest-requires : tie.Need-smallest-requires
+smallest-requires c κs = search needs
 
 returns-2 : tie.Need-returns-2
 returns-2 c =
     let checked = c .before .before .before in
     let a = checked .before .before .before .args in
     let w = a .word .now in
-    into-refused-by (theWordFault (a .k) (a .n) w) (a .k) (a .n) (smallest w) (a .tray .now) (checked .check-word .ensures) (c .before .number .given .1) refl
+    beside-refused-by (theWordFault (a .k) (a .n) w) (a .k) (a .n) (leastTurn w) (smallest w) (a .tray .now) (checked .check-word .ensures) (c .before .number .given .1) refl (refl, refl)
 
 same-length : tie.Need-same-length
 same-length c = search needs
 
 returns-3 : tie.Need-returns-3
 returns-3 c =
-    let copied = c .before .before in
-    let turn = copied .before .before in
-    let known = turn .before .before in
+    let turned = c .before .before in
+    let known = turned .before .before .before in
     let a = known .before .before .before .before .before .args in
     let w = a .word .now in
-    into-answer (smallest w) (a .tray .now) (none known) (omega (arith, smallest-length w)) refl (copied .copy-turned .ensures ∙ ap (λ r. over r (a .tray .now)) (ap (λ i. turned i w) (turn .least-turn .ensures) ∙ least-turn-smallest w))
+    beside-answer (smallest w) (a .tray .now) (none known) (omega (arith, smallest-length w)) (turned .smallest .ensures .0) (refl, refl) (turned .smallest .ensures .1)
 
 pub smallest-rotation-spec : {M : Type 1} → statement M
 smallest-rotation-spec =
     tie.close
-    (tie.spec check-word-requires enum-known-number enum-told returns least-turn-requires copy-turned-requires returns-2 same-length returns-3)
+    (tie.spec check-word-requires enum-known-number enum-told returns smallest-requires returns-2 same-length returns-3)
