@@ -6,10 +6,10 @@
 #include <stdlib.h>
 #include <time.h>
 
-enum { RANK, PLACE, WORD, MARK, LOOK, SMUDGED, PRINT, CALLS };
+enum { TURN, RANK, PLACE, WORD, MARK, LOOK, SMUDGED, PRINT, CALLS };
 enum { LIBRARY, PLAIN, BEST, COPY, MAKERS };
 enum { INPUTS = 64, ROUNDS = 15, PRINTED = 1 << 20 };
-static const char *const NAMES[CALLS] = {"rank_of", "place_of", "word_of", "mark_at", "look_up", "look_up_smudged", "print_marks"};
+static const char *const NAMES[CALLS] = {"turn_of", "rank_of", "place_of", "word_of", "mark_at", "look_up", "look_up_smudged", "print_marks"};
 static const uint64_t STRIPS[][2] = {{2, 60}, {4, 30}, {36, 11}};
 
 static uint64_t k, n, numbers[INPUTS];
@@ -45,6 +45,7 @@ static void draw_inputs(int call) {
 #define ASK(name, maker)                                                                                                                \
     case maker:                                                                                                                         \
         switch (call) {                                                                                                                 \
+        case TURN: return name##turn_of(k, n, words[i], n, tray, MOST);                                                                 \
         case RANK: return name##rank_of(k, n, words[i], n, tray, MOST);                                                                 \
         case PLACE: return name##place_of(k, n, words[i], n, tray, MOST);                                                               \
         case WORD: return name##word_of(k, n, numbers[i], tray, MOST);                                                                  \

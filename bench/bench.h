@@ -8,6 +8,7 @@
 enum { MOST = 60, SECTIONS = 500 };
 
 #define CALLS_OF(name)                                                                                                                  \
+    uint8_t name##_turn_of(uint64_t k, uint64_t n, const uint8_t *word, size_t word_len, uint8_t *tray, size_t tray_len);              \
     uint8_t name##_rank_of(uint64_t k, uint64_t n, const uint8_t *word, size_t word_len, uint8_t *tray, size_t tray_len);              \
     uint8_t name##_word_of(uint64_t k, uint64_t n, uint64_t index, uint8_t *tray, size_t tray_len);                                    \
     uint8_t name##_mark_at(uint64_t k, uint64_t n, uint64_t place, uint8_t *tray, size_t tray_len);                                    \

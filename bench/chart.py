@@ -9,7 +9,8 @@ ABOUT = """# Measurements
 Written by `bash bench/run`: each call beside the same call in C, over the same random inputs, in one run, the least time of several rounds.
 Before it is measured, all answers are compared. Ratios only; on a busy machine they move from run to run, those beside memcpy most.
 
-- **Document 004 as published** (`bench/plain.c`): one table of path counts for each size, O(n^3) for the size of CS, words by bisecting letters.
+- **Document 004 as published** (`bench/plain.c`): one table of path counts for each size, O(n^3) for the size of CS, words by bisecting letters;
+  the turn, of which the document has no more than the definition, by writing out every rotation.
 - **Best C** (`bench/best.c`): the fastest that we could write, with a shorter way to count (its opening comment) and no proof.
   For a cursor's step (`bench/strides.c`, called from no C): the same tests and steps, a million on each strip.
 - **memcpy**: copying as many bytes as were printed.

@@ -112,7 +112,7 @@ least-turn-root w h = elim (split (root w) (leastTurn w)) [
         some (is-root e t f n p) = p
 
 pub turns : Turns
-turns = record { reaches = least-turn-smallest; least = least; none = λ w. (still w, own w); within-root = least-turn-root }
+turns = record { reaches = least-turn-smallest; least = least; none = λ w. (still w, own w); within-root = least-turn-root; examples = (refl, refl) }
   where
     least : (w : List ℕ) (r : ℕ) → turned r w ≡ smallest w → leastTurn w ≤ r
     least w r e = elim (split (leastTurn w) r) [ upto l ↦ l | over l ↦ absurd (least-turn-first w r l e) ]

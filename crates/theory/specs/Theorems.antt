@@ -44,12 +44,13 @@ pub record Undone : Type 0 where
   pub of-word : (k : ℕ) (w : List ℕ) → marksOk k w ≡ true → isLyndon w ≡ true → wordOf k (length w) (rank k w) ≡ w
   pub rank-range : (k : ℕ) (w : List ℕ) → marksOk k w ≡ true → isLyndon w ≡ true → (1 ≤ rank k w) × (rank k w ≤ howMany k (length w))
 
--- The turn to the smallest rotation.
+-- The turn to the smallest rotation: the least one that reaches it. Of 101010 it is 1, of 0000 none.
 pub record Turns : Type 0 where
   pub reaches : (w : List ℕ) → turned (leastTurn w) w ≡ smallest w
   pub least : (w : List ℕ) (r : ℕ) → turned r w ≡ smallest w → leastTurn w ≤ r
   pub none : (w : List ℕ) → (leastTurn w ≡ 0) ↔ (smallest w ≡ w)
   pub within-root : (w : List ℕ) → 1 ≤ length w → leastTurn w < root w
+  pub examples : (leastTurn (1 ∷ 0 ∷ 1 ∷ 0 ∷ 1 ∷ 0 ∷ []) ≡ 1) × (leastTurn (0 ∷ 0 ∷ 0 ∷ 0 ∷ []) ≡ 0)
 
 -- What the definitions that search for a rotation or a root mean, for every word (document 004, section 2).
 pub record Word-laws : Type 0 where
