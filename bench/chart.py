@@ -19,6 +19,8 @@ Plans have 500 sections. A smudged window has two unread marks, and hardly any f
 
 Why the library is slower than the best C, as far as parts of a call were measured by themselves (not in this run):
 
+- Turns: two rotations of a random word, as are measured here, differ after a few letters. Of a word that repeats itself or is one letter but for a few, the library compares up to
+  n^2 / 2 letters, 0.7 to 1.5 us on (2, 60), where `best.c`, in one pass with two candidates, takes 0.1 to 0.2 us.
 - Ranks and places: the library fills a table of 61 times 61 numbers, as the rules ask, where `best.c` keeps two rows. Clearing the table is a twentieth of a rank on (2, 60) and
   a third to a half on (36, 11); the divisions that look for divisors, timed alone, come to a fifth to a quarter on (2, 60). The rest was not taken apart.
 - Lookup: the 500 sections, of which the check reads each once and the search ten by bisection, are a sixth of it on (2, 60), a third on (4, 30) and a half on (36, 11). The rest is the place.
