@@ -9,9 +9,9 @@ An edit bears on a public function if it changes that function, or one of the sa
 definition in specs/ of a crate whose one function has that definition as its contract. A function of the boundary (strip) is one line that
 calls its family's function of the same name: the edits of that one count for it, and who calls the line calls that one.
 
-Fails if a public function has no such contract or fewer than two edits, if a call of the library is called by no test program, if one that
-is no call is used by no other crate, or if a function of the boundary is more than its one line. tests/tricks.py feeds this with made-up
-crates that should be refused."""
+Fails if a public function has no such contract or fewer than two edits, if what an edit replaces does not stand in its file just once, if a
+call of the library is called by no test program, if one that is no call is used by no other crate, or if a function of the boundary is more
+than its one line. tests/tricks.py feeds this with made-up crates that should be refused."""
 import re
 import sys
 from pathlib import Path
@@ -251,6 +251,10 @@ def read_crate(name, uses):
     strange = [path.name for path in folder.glob("must-fail/*") if path.suffix != ".edit"]
     if strange:
         sys.exit("coverage: not tried, since it is called no .edit: %s in %s" % (", ".join(strange), name))
+    for path in sorted(folder.glob("must-fail/*.edit")):
+        for file, old in replaced(path.read_text()):
+            if (folder / file).read_text().count(old) != 1:
+                sys.exit("coverage: what %s/%s replaces does not stand in %s just once: %s" % (name, path.stem, file, old))
     return Crate(name, uses, [path.read_text() for path in sorted(folder.glob("src/**/*.rt"))],
                  [path.read_text() for path in sorted(folder.glob("must-fail/*.edit"))])
 

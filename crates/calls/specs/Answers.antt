@@ -13,7 +13,7 @@ use Rattle.calls.specs.declared.Value as DV
 abbrev pub Into : ℕ → List ℕ → List ℕ → List ℕ → ℕ → Type 0
 Into f b t t′ r = let n = firstOf f (when (ltb (length t) (length b)) 6) in (r ≡ n) × (t′ ≡ pick (eqb n 0) (over b t) t)
 
--- and a value beside the bytes; a refusal's value is 0, that of a tray too
+-- the same with a value beside the bytes; a refusal's value is 0, also if the tray is too small
 abbrev pub IntoValue : ℕ → ℕ → List ℕ → List ℕ → List ℕ → DV.Value → Type 0
 IntoValue f v b t t′ r = Into f b t t′ (r .number) × (r .value ≡ pick (eqb (r .number) 0) v 0)
 

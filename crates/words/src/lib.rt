@@ -1,5 +1,5 @@
-// Calls on one word: is it a Lyndon word, its smallest rotation and the turn to it, its shortest root. A faulty argument gets its number from the table of
-// refusals, and every tray is then as it was.
+// Calls on one word: is it a Lyndon word, its smallest rotation and the turn to it, its shortest root. A faulty argument gets its number from
+// the table of refusals, and every tray is then as it was.
 ghost use Rattle.words.specs.Says.{LyndonSays, RotationSays, TurnSays, RootSays};
 use calls::Checked;
 use calls::Value;
