@@ -35,6 +35,10 @@ handed-on F G t T L f e h g l =
 pub over-length : (xs ys : List ℕ) → length xs ≤ length ys → length (over xs ys) ≡ length ys
 over-length xs ys h = length-append xs (drop (length xs) ys) ∙ omega (arith, length-drop (length xs) ys)
 
+-- bytes over all of a buffer
+pub over-whole : (xs ys : List ℕ) → length xs ≡ length ys → over xs ys ≡ xs
+over-whole xs ys e = ap (λ r. xs ++ r) (drop-of-length-le ys {i = length xs} (omega arith)) ∙ append-nil xs
+
 -- behind the first m bytes of a buffer there is room for what a word has more than m letters
 pub room-left : (w T : List ℕ) (t : ℕ) → t ≤ length w → length w ≤ length T
     → length (take t w) ≤ length (take (length T - (length w - t)) (drop (length w - t) T))

@@ -1,20 +1,15 @@
 -- The necklace from whose root word on a window is looked for, as it comes from the smallest rotation.
-use mathlib.Core.Path.{_≡_, sym, _∙_, ap, ap₂}
-use mathlib.Core.List.{List, _++_, append-nil}
+use mathlib.Core.Path.{_≡_, sym, ap, ap₂}
+use mathlib.Core.List.{List, _++_}
 use Prim.Native.Nat.{ℕ, _-_, _≤_, _<_}
 use native.Mathlib.Omega.{arith}
-use lib.ListN.{length, take, drop, replicate, length-drop, drop-of-length-le}
+use lib.ListN.{length, take, drop, replicate, length-drop}
 use lib.Seq.{take-at}
 use borrow.Author.Tests.{lt-ltb, le-ltb}
 use Rattle.theory.proofs.Turns.{turned-length}
-use Rattle.buffers.specs.Buffers.{over}
 use Rattle.theory.specs.Words.{pick, turned}
 use Rattle.theory.specs.Floors.{necklaceBelow}
 use Rattle.locator.specs.Fits.{cleared, baseOf}
-
--- a word over as many letters
-pub over-whole : (u v : List ℕ) → length u ≡ length v → over u v ≡ u
-over-whole u v e = ap (λ x. u ++ x) (drop-of-length-le v {i = length u} (omega arith)) ∙ append-nil u
 
 -- what follows the turn, with zeros after it
 pub cleared-rest : (w : List ℕ) (turn : ℕ) → turn ≤ length w → cleared turn (turned turn w) ≡ drop turn w ++ replicate turn 0

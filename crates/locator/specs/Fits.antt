@@ -21,7 +21,7 @@ fitFrom (suc l) p text w = pick (same (take (length w) (drop p text)) w) p (fitF
 abbrev pub firstFit : List ℕ → List ℕ → ℕ
 firstFit text w = fitFrom (length text - length w + 1) 0 text w
 
--- a word with zeros for its last letters: γ α with as many zeros as α has letters
+-- a word with zeros for its last letters, as many as the turn: of γ α that is γ 0 .. 0
 abbrev pub cleared : ℕ → List ℕ → List ℕ
 cleared turn v = filled 0 (length v - turn) v
 

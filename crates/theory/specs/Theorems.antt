@@ -44,7 +44,7 @@ pub record Undone : Type 0 where
   pub of-word : (k : ℕ) (w : List ℕ) → marksOk k w ≡ true → isLyndon w ≡ true → wordOf k (length w) (rank k w) ≡ w
   pub rank-range : (k : ℕ) (w : List ℕ) → marksOk k w ≡ true → isLyndon w ≡ true → (1 ≤ rank k w) × (rank k w ≤ howMany k (length w))
 
--- The turn to the smallest rotation: the least one that reaches it. Of 101010 it is 1, of 0000 none.
+-- The turn to the smallest rotation: the least one that reaches it, 1 of 101010 and 0 of 0000.
 pub record Turns : Type 0 where
   pub reaches : (w : List ℕ) → turned (leastTurn w) w ≡ smallest w
   pub least : (w : List ℕ) (r : ℕ) → turned r w ≡ smallest w → leastTurn w ≤ r

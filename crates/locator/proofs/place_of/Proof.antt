@@ -8,7 +8,7 @@ use Rattle.theory.specs.Words.{smallest}
 use Rattle.theory.proofs.Necklaces.{smallest-length}
 use Rattle.shape.proofs.Limits.{limits}
 use Rattle.locator.proofs.Leading.{leading-length}
-use Rattle.locator.proofs.Bases.{over-whole}
+use Rattle.buffers.proofs.Bytes.{over-whole}
 use Rattle.locator.proofs.Locates.{Located, place-small, base-counted}
 use Rattle.locator.proofs.Computed.{counts-inside, wrapped-inside, wrapped-place, turn-based, turn-located, letters-short, word-held, word-inside, text-room, text-place}
 use borrow.Author.Needs.{needs}
