@@ -6,7 +6,7 @@ use Rattle.demands.proofs.Refused.{refusals}
 use Rattle.demands.proofs.Words.{lyndon, rotation, turn, root-told, count, ranked, unranked, word-back, rank-back}
 use Rattle.demands.proofs.Marks.{marked, placed, place-back, window-back, printed}
 use Rattle.demands.proofs.Walking.{started, not-started, stands, step, not-stepped, undone, walk, both-ways}
-use Rattle.demands.proofs.Laying.{laid, laid-only, smudged, smudged-only, smudged-plain}
+use Rattle.demands.proofs.Laying.{laid, laid-across, laid-only, smudged, smudged-only, smudged-plain}
 
 pub demands : Demands
 demands = record {
@@ -39,6 +39,7 @@ demands = record {
   walk = walk;
   both-ways = both-ways;
   laid = laid;
+  laid-across = laid-across;
   laid-only = laid-only;
   smudged = smudged;
   smudged-only = smudged-only;

@@ -1,5 +1,5 @@
 -- The lookups down to the bytes: a window inside a section is answered so, and what is answered is so; the same of a smudged window.
-use mathlib.Core.Path.{_≡_, refl, sym, _∙_, ap, ap₂, subst}
+use mathlib.Core.Path.{_≡_, refl, sym, _∙_, ap, ap₂, subst, subst₂}
 use mathlib.Core.Bool.{true, not}
 use mathlib.Core.List.{List, []}
 use Prim.Native.Nat.{ℕ, suc, _+_, _-_, _^_, _≤_, _<_}
@@ -9,7 +9,8 @@ use lib.Dec.{eqb}
 use lib.ListN.{length, drop}
 use Rattle.theory.specs.Words.{pick, keep}
 use Rattle.theory.specs.Strips.{window, placeOf}
-use Rattle.theory.specs.Plans.{be, shades, marks, sectionCount, sections, nthS, planFault, layingAt, laidAt, distanceAt, lookupFault, layingOf}
+use Rattle.theory.specs.Plans.{be, shades, marks, sectionCount, sections, welded, nthS, planFault, layingAt, laidAt, distanceAt, lookupFault, layingOf, distanceOf}
+use Rattle.theory.specs.Theorems.{Lies}
 use Rattle.theory.specs.Erasures.{unread, agrees, smudgedFault}
 use Rattle.theory.proofs.Rings.{one-place}
 use Rattle.theory.proofs.Faults.{first-none, when-none, word-fine}
@@ -22,6 +23,7 @@ use Rattle.calls.specs.Answers.{Into}
 use Rattle.calls.proofs.Answers.{into-given}
 use Rattle.sections.proofs.Whole.{accepted-whole}
 use Rattle.lookups.specs.Says.{answerAt, answerSize, LookupSays, SmudgedSays}
+use Rattle.demands.specs.Demands.{Section-told}
 use Rattle.demands.proofs.Trays.{into-fine, answered, answers, smudged-picked, smudged-refusal, smudged-answers}
 
 -- the answer for a laid window, read back: few sections, and no place above 2^60
@@ -34,37 +36,50 @@ module _ (s : List ℕ) (p : ℕ) (good : planFault s ≡ 0) (laid : laidAt s p 
       let (_, is, ends) = theory.laid-at s p good laid in
       ap (be 2 8) tray ∙ put-read 8 (distanceAt s p) (omega (arith, is, ends, admitted-limits (shades s) (marks s) (theory.plan-good s good .1) .range))
 
-pub laid : (s : List ℕ) (i d : ℕ) (t t′ : List ℕ) (r : ℕ) → planFault s ≡ 0 → i < sectionCount s → d + marks s ≤ nthS (sections s) i .long
-    → answerSize ≤ length t → LookupSays s (window (shades s) (marks s) (nthS (sections s) i .offset + d)) t t′ r
-    → (r ≡ 0) × (be 0 2 t′ ≡ i) × (be 2 8 t′ ≡ d) × (drop answerSize t′ ≡ drop answerSize t)
-laid s i d t t′ r good h fits room e =
-    let w = window (shades s) (marks s) (nthS (sections s) i .offset + d) in
+  place-back : nthS (sections s) (be 0 2 t′) .offset + be 2 8 t′ ≡ p
+  place-back = ap₂ (λ i d. nthS (sections s) i .offset + d) section-back distance-back ∙ theory.laid-at s p good laid .1
+
+-- a window that is looked up without fault, for which the theory says section and distance
+told : (s w : List ℕ) {i d : ℕ} (t t′ : List ℕ) (r : ℕ) → planFault s ≡ 0 → (lookupFault s w ≡ 0) × (layingOf s w ≡ suc i) × (distanceOf s w ≡ d)
+    → answerSize ≤ length t → LookupSays s w t t′ r → Section-told i d t t′ r
+told s w t t′ r good (fine, laying, distance) room e =
     let p = placeOf (shades s) (marks s) w in
-    let (fine, laying, distance) = theory.laid s i d good h fits in
     let (number, tray) = into-fine (lookupFault s w) (answerAt s p) t fine room e in
     let there = theory.some-laid s p (λ z. omega (arith, laying)) in
-    (number, section-back s p good there t tray ∙ omega (arith, laying), distance-back s p good there t tray ∙ distance, ap (drop answerSize) tray)
+    record {
+      fine = number;
+      section = section-back s p good there t tray ∙ omega (arith, laying);
+      distance = distance-back s p good there t tray ∙ distance;
+      kept = ap (drop answerSize) tray;
+    }
+
+pub laid : (s : List ℕ) (i d : ℕ) (t t′ : List ℕ) (r : ℕ) → planFault s ≡ 0 → i < sectionCount s → d + marks s ≤ nthS (sections s) i .long
+    → answerSize ≤ length t → LookupSays s (window (shades s) (marks s) (nthS (sections s) i .offset + d)) t t′ r → Section-told i d t t′ r
+laid s i d t t′ r good h fits room e = told s (window (shades s) (marks s) (nthS (sections s) i .offset + d)) t t′ r good (theory.laid s i d good h fits) room e
+
+pub laid-across : (s : List ℕ) (i d : ℕ) (t t′ : List ℕ) (r : ℕ) → planFault s ≡ 0 → suc i < sectionCount s
+    → welded (nthS (sections s) i) (nthS (sections s) (suc i)) ≡ true → d < nthS (sections s) i .long
+    → answerSize ≤ length t → LookupSays s (window (shades s) (marks s) (nthS (sections s) i .offset + d)) t t′ r → Section-told i d t t′ r
+laid-across s i d t t′ r good h weld begins room e =
+    told s (window (shades s) (marks s) (nthS (sections s) i .offset + d)) t t′ r good (theory.laid-across s i d good h weld begins) room e
 
 pub laid-only : (s w t t′ : List ℕ) (r : ℕ) → LookupSays s w t t′ r → r ≡ 0
     → let i = be 0 2 t′ in
-    let d = be 2 8 t′ in
-    (i < sectionCount s) × (d + marks s ≤ nthS (sections s) i .long) × (window (shades s) (marks s) (nthS (sections s) i .offset + d) ≡ w)
+    let p = nthS (sections s) i .offset + be 2 8 t′ in
+    (i < sectionCount s) × Lies (marks s) (sections s) i p × (window (shades s) (marks s) p ≡ w)
 laid-only s w t t′ r e z =
     let p = placeOf (shades s) (marks s) w in
     let (fine, _, over-it) = answered (lookupFault s w) (pick (eqb (lookupFault s w) 0) (answerAt s p) []) t e z in
     let (good, word, looked) = theory.lookup-good s w fine in
     let there : laidAt s p ≡ true = ap not (when-none (eqb (layingOf s w) 0) 9 (λ y. omega arith) looked) in
-    let (inside, place, fits) = theory.laid-only s w fine in
+    let (inside, _, lies) = theory.laid-only s w fine in
     let tray : t′ ≡ over (answerAt s p) t = over-it ∙ ap (λ f. over (pick (eqb f 0) (answerAt s p) []) t) fine in
     let number = section-back s p good there t tray in
-    let distance = distance-back s p good there t tray in
+    let place = place-back s p good there t tray in
     let lim = admitted-limits (shades s) (marks s) (theory.plan-good s good .1) in
     let (long, letters) = word-fine (shades s) (marks s) w word in
-    let reads = one-place .found (shades s) (marks s) w (lim .two) (lim .some) long letters .1 in (
-      omega (arith, number, inside),
-      omega (arith, distance, fits, ap (λ j. nthS (sections s) j .long) number),
-      ap₂ (λ j d. window (shades s) (marks s) (nthS (sections s) j .offset + d)) number distance ∙ ap (window (shades s) (marks s)) place ∙ reads,
-    )
+    let reads = one-place .found (shades s) (marks s) w (lim .two) (lim .some) long letters .1 in
+    (omega (arith, number, inside), subst₂ (Lies (marks s) (sections s)) (sym number) (sym place) lies, ap (window (shades s) (marks s)) place ∙ reads)
 
 -- a smudged window: if a laid one agrees, one is answered
 pub smudged : (s w : List ℕ) (p : ℕ) (t t′ : List ℕ) (r : ℕ) → planFault s ≡ 0 → p < shades s ^ marks s → laidAt s p ≡ true
@@ -87,8 +102,8 @@ module _ (s w t t′ : List ℕ) (r : ℕ) (e : SmudgedSays s w t t′ r) where
       let good = first-none (planFault s) _ fine .0 in
       let (_, _, tray) = answered 0 (answerAt s p) t (x .answer) z in
       let number = section-back s p good there t tray in
-      let (few, at, _) = theory.laid-at s p good there in
-      let place : nthS (sections s) (be 0 2 t′) .offset + be 2 8 t′ ≡ p = ap₂ (λ j d. nthS (sections s) j .offset + d) number (distance-back s p good there t tray) ∙ at in
+      let few = theory.laid-at s p good there .0 in
+      let place = place-back s p good there t tray in
       let some = theory.laid-some s p there in (
         omega (arith, number, few),
         ap (layingAt s) place ∙ omega (arith, number, some),

@@ -3,15 +3,16 @@ use mathlib.Core.Path.{_≡_, sym, _∙_, ap}
 use mathlib.Core.Bool.{true, false, _&&_, _||_, not, false≢true}
 use mathlib.Core.List.{List, _++_}
 use mathlib.Core.Logic.{inl, inr, _↔_, _≢_}
-use Prim.Native.Nat.{ℕ, _+_, _-_, _^_, _≤_, _<_}
+use Prim.Native.Nat.{ℕ, suc, _-_, _^_, _<_}
 use native.Mathlib.Omega.{arith}
 use native.Mathlib.Decide.{ℕ-discrete}
 use lib.Dec.{eqb, ltb, leb}
 use lib.ListN.{length}
 use borrow.Author.Tests.{ne-eqb}
 use Rattle.theory.specs.Words.{firstOf, when, keep, marksOk, howMany}
-use Rattle.theory.specs.Strips.{admitted, window, cursorOk}
-use Rattle.theory.specs.Plans.{shades, marks, sectionCount, sections, nthS, planFault, wordFault, torn, straightFrom, laidAt, layingOf, distanceOf, lookupFault}
+use Rattle.theory.specs.Strips.{admitted, window, placeOf, cursorOk}
+use Rattle.theory.specs.Plans.{shades, marks, sections, planFault, wordFault, torn, straightFrom, layingAt, laidAt, layingOf, lookupFault}
+use Rattle.theory.specs.Theorems.{Lies}
 use Rattle.theory.specs.Erasures.{unread, read, agrees, fitting, smudgedFault}
 use Rattle.theory.proofs.Base.{test}
 use Rattle.theory.proofs.Lists.{in-some, no-members}
@@ -74,10 +75,9 @@ none-agrees s w = (into, out)
     out : ((p : ℕ) → p < shades s ^ marks s → laidAt s p ≡ true → agrees w (window (shades s) (marks s) p) ≡ false) → length (fitting s w) ≡ 0
     out none = ap length (no-members (fitting s w) (λ p i. let (h, laid, agree) = fitting-in s w i in false≢true (sym (none p h laid) ∙ agree)))
 
--- a window that is read nowhere inside a section
+-- a window that is read nowhere where it lies in a section
 not-laid : (s w : List ℕ) → given (planRules s) ≡ 0 → given (markRules (shades s) (marks s) w) ≡ 0
-    → (layingOf s w ≡ 0)
-    ↔ ((i d : ℕ) → i < sectionCount s → d + marks s ≤ nthS (sections s) i .long → window (shades s) (marks s) (nthS (sections s) i .offset + d) ≢ w)
+    → (layingOf s w ≡ 0) ↔ ((i p : ℕ) → Lies (marks s) (sections s) i p → window (shades s) (marks s) p ≢ w)
 not-laid s w plan word = (into, out)
   where
     good : planFault s ≡ 0
@@ -86,23 +86,21 @@ not-laid s w plan word = (into, out)
     fine : wordFault (shades s) (marks s) w ≡ 0
     fine = marks-given (shades s) (marks s) w ∙ word
 
-    into : layingOf s w ≡ 0 → (i d : ℕ) → i < sectionCount s → d + marks s ≤ nthS (sections s) i .long
-        → window (shades s) (marks s) (nthS (sections s) i .offset + d) ≢ w
-    into z i d h fits e =
-        let (_, laying, _) = theory.laid s i d good h fits in
-        omega (arith, z, ap (layingOf s) (sym e) ∙ laying)
+    into : layingOf s w ≡ 0 → (i p : ℕ) → Lies (marks s) (sections s) i p → window (shades s) (marks s) p ≢ w
+    into z i p lies e =
+        let laying : layingOf s w ≡ suc i = ap (layingOf s) (sym e) ∙ ap (layingAt s) (theory.lies-place s good lies) ∙ theory.lies-laying s good lies in
+        omega (arith, z, laying)
 
-    out : ((i d : ℕ) → i < sectionCount s → d + marks s ≤ nthS (sections s) i .long → window (shades s) (marks s) (nthS (sections s) i .offset + d) ≢ w)
-        → layingOf s w ≡ 0
+    out : ((i p : ℕ) → Lies (marks s) (sections s) i p → window (shades s) (marks s) p ≢ w) → layingOf s w ≡ 0
     out none = elim (ℕ-discrete (layingOf s w) 0) [ yes z ↦ z | no z ↦ absurd (somewhere z) ]
       where
         somewhere : ¬ (layingOf s w ≡ 0) → ⊥
         somewhere z =
             let looked : lookupFault s w ≡ 0 = rw (good, fine, ne-eqb (layingOf s w) 0 z) in
-            let (inside, place, fits) = theory.laid-only s w looked in
+            let (_, _, lies) = theory.laid-only s w looked in
             let (two, one) = admitted-range (shades s) (marks s) (theory.plan-good s good .1) in
             let (long, letters) = word-fine (shades s) (marks s) w fine in
-            none (layingOf s w - 1) (distanceOf s w) inside fits (ap (window (shades s) (marks s)) place ∙ one-place .found (shades s) (marks s) w two one long letters .1)
+            none (layingOf s w - 1) (placeOf (shades s) (marks s) w) lies (one-place .found (shades s) (marks s) w two one long letters .1)
 
 pub refusals : Refusals
 refusals = record {

@@ -9,9 +9,9 @@ use lib.ListN.{length, getD, take, drop, replicate}
 use Rattle.theory.specs.Words.{below, upTo, turned, repeated, powerTo, keep, marksOk, isLyndon, howMany, rank, wordOf}
 use Rattle.theory.specs.Rings.{modulo, pathEnd, pathLetters}
 use Rattle.theory.specs.Strips.{admitted, strip, markAt, marksFrom, window, placeIn}
-use Rattle.theory.specs.Plans.{be, shades, marks, sectionCount, sections, nthS, planFault, layingAt, laidAt}
+use Rattle.theory.specs.Plans.{be, shades, marks, sectionCount, sections, welded, nthS, planFault, layingAt, laidAt}
 use Rattle.theory.specs.Erasures.{unread, agrees}
-use Rattle.theory.specs.Theorems.{Theorems}
+use Rattle.theory.specs.Theorems.{Lies, Theorems}
 use Rattle.buffers.specs.Buffers.{over}
 use Rattle.numbers.specs.Numbers.{putBe}
 use Rattle.calls.specs.declared.Value as DV
@@ -33,6 +33,13 @@ pub record Turn-told (w : List ℕ) (v : ℕ) : Type 0 where
   pub inside : v < length w
   pub lowest : (i : ℕ) → upTo (turned v w) (turned i w) ≡ true
   pub first : (j : ℕ) → j < v → turned j w ≢ turned v w
+
+-- the section and the distance that look_up tells, and no byte after them
+pub record Section-told (i d : ℕ) (t t′ : List ℕ) (r : ℕ) : Type 0 where
+  pub fine : r ≡ 0
+  pub section : be 0 2 t′ ≡ i
+  pub distance : be 2 8 t′ ≡ d
+  pub kept : drop answerSize t′ ≡ drop answerSize t
 
 pub record Demands : Type 0 where
   pub theorems : Theorems
@@ -105,15 +112,19 @@ pub record Demands : Type 0 where
       → StartSays k n p r → Followed Says (r .cursor) ways qs d → WhereSays d v
       → (r .number ≡ 0) × (fields (λ q. q .number) qs ≡ replicate (length qs) 0) × (fields (λ q. q .mark) qs ≡ pathLetters (k ^ n) (strip k n) ways p)
       × (fields (λ q. q .passed) qs ≡ pathPassed k n ways p) × (v .number ≡ 0) × (v .value ≡ pathEnd (k ^ n) ways p)
-  -- Plans: look_up on the window at a distance in a section of an accepted plan writes that section and that distance, and no byte after them
+  -- Plans: look_up on the window at a distance in a section of an accepted plan writes that section and that distance
   pub laid : (s : List ℕ) (i d : ℕ) (t t′ : List ℕ) (r : ℕ) → planFault s ≡ 0 → i < sectionCount s → d + marks s ≤ nthS (sections s) i .long
       → answerSize ≤ length t → LookupSays s (window (shades s) (marks s) (nthS (sections s) i .offset + d)) t t′ r
-      → (r ≡ 0) × (be 0 2 t′ ≡ i) × (be 2 8 t′ ≡ d) × (drop answerSize t′ ≡ drop answerSize t)
-  -- what look_up answers is true: the window is read at that distance in that section, wholly inside it
+      → Section-told i d t t′ r
+  -- and so it does from each place of a section whose joint to the next is welded, across the joint too
+  pub laid-across : (s : List ℕ) (i d : ℕ) (t t′ : List ℕ) (r : ℕ) → planFault s ≡ 0 → suc i < sectionCount s
+      → welded (nthS (sections s) i) (nthS (sections s) (suc i)) ≡ true → d < nthS (sections s) i .long
+      → answerSize ≤ length t → LookupSays s (window (shades s) (marks s) (nthS (sections s) i .offset + d)) t t′ r → Section-told i d t t′ r
+  -- what look_up answers is true: the window is read at that distance in that section, inside it or on over a welded joint into the next
   pub laid-only : (s w t t′ : List ℕ) (r : ℕ) → LookupSays s w t t′ r → r ≡ 0
       → let i = be 0 2 t′ in
-      let d = be 2 8 t′ in
-      (i < sectionCount s) × (d + marks s ≤ nthS (sections s) i .long) × (window (shades s) (marks s) (nthS (sections s) i .offset + d) ≡ w)
+      let p = nthS (sections s) i .offset + be 2 8 t′ in
+      (i < sectionCount s) × Lies (marks s) (sections s) i p × (window (shades s) (marks s) p ≡ w)
   -- Smudged windows: look_up_smudged answers if some laid window agrees with what was read, and at most two marks were not. Which one it picks is free, so
   -- the third demand's last sentence, section and distance of the window that was read, holds here for windows read in full: `smudged-plain`, with `laid`
   pub smudged : (s w : List ℕ) (p : ℕ) (t t′ : List ℕ) (r : ℕ) → planFault s ≡ 0 → p < shades s ^ marks s → laidAt s p ≡ true

@@ -4,13 +4,14 @@ use mathlib.Core.Path.{_≡_}
 use mathlib.Core.Bool.{true, false, _&&_, _||_, not}
 use mathlib.Core.List.{List, [], _∷_, _++_}
 use mathlib.Core.Logic.{_↔_, _≢_}
-use Prim.Native.Nat.{ℕ, _+_, _^_, _≤_, _<_}
+use Prim.Native.Nat.{ℕ, _+_, _^_, _<_}
 use lib.Dec.{eqb, ltb, leb}
 use lib.ListN.{length}
 use Rattle.theory.specs.Words.{howMany, keep, marksOk}
 use Rattle.theory.specs.Lists.{In}
 use Rattle.theory.specs.Strips.{admitted, window, cursorOk}
-use Rattle.theory.specs.Plans.{shades, marks, sectionCount, sections, nthS, torn, straightFrom, laidAt, layingOf}
+use Rattle.theory.specs.Plans.{shades, marks, sections, torn, straightFrom, laidAt, layingOf}
+use Rattle.theory.specs.Theorems.{Lies}
 use Rattle.theory.specs.Erasures.{unread, read, agrees, fitting}
 use Rattle.calls.specs.declared.Value as DV
 use Rattle.calls.specs.Order.{order, Rule, rule, appliesIn, given}
@@ -83,10 +84,9 @@ pub record Refusals : Type 0 where
   pub cursor-place : (c : DC.Cursor) (r : DV.Value) → WhereSays c r → r .number ≡ given (cursorRules c)
   pub step : (c : DC.Cursor) (r : DT.Stepped) → StepSays c r → r .number ≡ given (cursorRules c)
   pub step-back : (c : DC.Cursor) (r : DT.Stepped) → BackSays c r → r .number ≡ given (cursorRules c)
-  -- 9 applies just when the window, without fault itself, is read nowhere wholly inside a section of the accepted plan
+  -- 9 applies just when the window, without fault itself, is read at no place where it lies in a section of the accepted plan
   pub not-laid : (s w : List ℕ) → given (planRules s) ≡ 0 → given (markRules (shades s) (marks s) w) ≡ 0
-      → (layingOf s w ≡ 0)
-      ↔ ((i d : ℕ) → i < sectionCount s → d + marks s ≤ nthS (sections s) i .long → window (shades s) (marks s) (nthS (sections s) i .offset + d) ≢ w)
+      → (layingOf s w ≡ 0) ↔ ((i p : ℕ) → Lies (marks s) (sections s) i p → window (shades s) (marks s) p ≢ w)
   -- and for a smudged window just when no laid window agrees with it
   pub none-agrees : (s w : List ℕ)
       → (length (fitting s w) ≡ 0) ↔ ((p : ℕ) → p < shades s ^ marks s → laidAt s p ≡ true → agrees w (window (shades s) (marks s) p) ≡ false)

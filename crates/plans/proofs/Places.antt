@@ -1,14 +1,16 @@
 -- The section of a place: sections are sorted, so bisection finds how many begin at the place or before it; only the last of these can hold the window.
-use mathlib.Core.Path.{_≡_, refl, sym, _∙_, ap}
+use mathlib.Core.Path.{_≡_, refl, sym, _∙_, ap, subst}
 use mathlib.Core.Bool.{true}
 use mathlib.Core.List.{List}
+use mathlib.Core.Logic.{_⊎_, ⊎-elim}
 use Prim.Native.Nat.{ℕ, suc, _+_, _-_, _^_, _≤_, _<_}
 use native.Mathlib.Omega.{arith}
 use lib.ListN.{length}
-use Rattle.theory.specs.Plans.{Section, shades, marks, sectionCount, sections, straightFrom, planFault, layingAt, nthS}
+use Rattle.theory.specs.Plans.{Section, endOf, shades, marks, sectionCount, sections, straightFrom, planFault, layingAt, nthS}
+use Rattle.theory.specs.Theorems.{Lies}
 use Rattle.theory.proofs.Base.{less, equal, more, cmp}
 use Rattle.theory.proofs.Rings.{admitted-range}
-use Rattle.theory.proofs.Laying.{plan-good, sections-count, straight-at, straight-apart, laying-at, unlaid}
+use Rattle.theory.proofs.Laying.{plan-good, sections-count, straight-at, straight-apart, weld-meets, meets-weld, lies-inside, lies-across, lies-laying, unlaid}
 use Rattle.shape.proofs.Limits.{limits}
 use Rattle.sections.proofs.Whole.{accepted-whole}
 use Rattle.plans.specs.Begun.{Between, Begun}
@@ -24,7 +26,7 @@ module _ (s : List ℕ) (good : planFault s ≡ 0) where
   wide : 1 ≤ marks s
   wide = admitted-range (shades s) (marks s) (plan-good s good .1) .1
 
-  apart : (i j : ℕ) → i < j → j < length (sections s) → nthS (sections s) i .offset + nthS (sections s) i .long ≤ nthS (sections s) j .offset
+  apart : (i j : ℕ) → i < j → j < length (sections s) → endOf (nthS (sections s) i) ≤ nthS (sections s) j .offset
   apart i j h l = straight-apart (marks s) top 0 (sections s) i j straight h l
 
   sorted : (i j : ℕ) → i ≤ j → j < length (sections s) → nthS (sections s) i .offset ≤ nthS (sections s) j .offset
@@ -32,7 +34,7 @@ module _ (s : List ℕ) (good : planFault s ≡ 0) where
       elim (cmp i j) [ less g ↦ omega (arith, apart i j g l) | equal g ↦ omega (arith, ap (λ m. nthS (sections s) m .offset) g) | more g ↦ absurd (omega arith) ]
 
   -- they end within the strip
-  section-ends : (i : ℕ) → i < length (sections s) → nthS (sections s) i .offset + nthS (sections s) i .long ≤ 2 ^ 60
+  section-ends : (i : ℕ) → i < length (sections s) → endOf (nthS (sections s) i) ≤ 2 ^ 60
   section-ends i h =
       let x = straight-at (marks s) top 0 (sections s) i straight h in
       let l = limits {s = record { k = shades s; n = marks s; size = top }} (record { admit = plan-good s good .1; size = refl }) in
@@ -67,28 +69,59 @@ module _ (s : List ℕ) (good : planFault s ≡ 0) where
 
     -- the window at p
     pub nowhere : Begun p (sections s) 0 → layingAt s p ≡ 0
-    nowhere b = unlaid 0 p (marks s) (sections s) (λ i l h. absurd (omega (arith, b .behind i (omega arith) l)))
+    nowhere begun = unlaid s p (λ i l. absurd (omega (arith, l .starts, begun .behind i (omega arith) (l .listed))))
 
-    -- r sections begin at p or before it, and x is the last of them
-    module _ {r : ℕ} {x : Section} (begun : Begun p (sections s) r) (some : 1 ≤ r) (is : x ≡ nthS (sections s) (r - 1)) where
-      ends : nthS (sections s) (r - 1) .offset + nthS (sections s) (r - 1) .long ≡ x .offset + x .long
-      ends = ap (λ y. y .offset + y .long) (sym is)
+    -- of the r sections that begin at p or before it, the last, number i, is looked at; it ends at `end`
+    pub record Looked (r end : ℕ) : Type 0 where
+      i : ℕ
+      all : r ≡ suc i
+      begun : Begun p (sections s) (suc i)
+      ends : endOf (nthS (sections s) i) ≡ end
 
-      pub ends-fit : x .offset + x .long ≤ 2 ^ 60
-      ends-fit = omega (arith, ends, section-ends (r - 1) (omega (arith, begun .within)))
+    pub look : {r : ℕ} {x : Section} → Begun p (sections s) r → 1 ≤ r → x ≡ nthS (sections s) (r - 1) → Looked r (endOf x)
+    look {r} begun some is = let all : r ≡ suc (r - 1) = omega arith in record { i = r - 1; all = all; begun = subst (Begun p (sections s)) all begun; ends = ap endOf (sym is) }
 
-      pub held : p + marks s ≤ x .offset + x .long → layingAt s p ≡ r
-      held h =
-          let e : suc (0 + (r - 1)) ≡ r = omega arith in
-          laying-at (marks s) top 0 (sections s) (r - 1) 0 p wide straight (omega (arith, begun .within)) (begun .before (r - 1) (omega arith)) (omega (arith, ends)) ∙ e
+    module _ {r end : ℕ} (l : Looked r end) where
+      abbrev i : ℕ
+      i = l .i
 
-      pub beyond : x .offset + x .long < p + marks s → layingAt s p ≡ 0
-      beyond h = unlaid 0 p (marks s) (sections s) none
-        where
-          none : (j : ℕ) → j < length (sections s) → nthS (sections s) j .offset ≤ p → nthS (sections s) j .offset + nthS (sections s) j .long < p + marks s
-          none j l g =
-              elim (cmp j (r - 1)) [
-                | less a ↦ omega (arith, apart j (r - 1) a (omega (arith, begun .within)), begun .before (r - 1) (omega arith), wide)
-                | equal a ↦ omega (arith, ap (λ m. nthS (sections s) m .offset + nthS (sections s) m .long) a, ends)
-                | more a ↦ absurd (omega (arith, begun .behind j (omega arith) l))
-              ]
+      starts : nthS (sections s) i .offset ≤ p
+      starts = l .begun .before i (omega arith)
+
+      -- the window lies there or nowhere: sections ahead of it end by its start, those behind it begin behind p
+      only : {j : ℕ} → Lies (marks s) (sections s) j p → j ≡ i
+      only {j} lies =
+          elim (cmp j i) [
+            | less a ↦ absurd (omega (arith, lies .begins, apart j i a (omega (arith, l .begun .within)), starts))
+            | equal a ↦ a
+            | more a ↦ absurd (omega (arith, lies .starts, l .begun .behind j (omega arith) (lies .listed)))
+          ]
+
+      none : ¬ Lies (marks s) (sections s) i p → layingAt s p ≡ 0
+      none not-there = unlaid s p (λ j lies. not-there (subst (λ m. Lies (marks s) (sections s) m p) (only lies) lies))
+
+      pub end-fits : end ≤ 2 ^ 60
+      end-fits = omega (arith, l .ends, section-ends i (omega (arith, l .begun .within)))
+
+      -- what is found out, one by one: it ends before p or there; the window ends in it
+      pub passed : end ≤ p → layingAt s p ≡ 0
+      passed h = none (λ lies. omega (arith, lies .begins, l .ends))
+
+      pub whole : p + marks s ≤ end → layingAt s p ≡ r
+      whole h = lies-laying s good (lies-inside s good starts (omega (arith, l .begun .within)) (omega (arith, l .ends))) ∙ sym (l .all)
+
+      -- the window goes on behind it, and there is no next section; or the next, y, begins just there, or does not
+      pub last : end < p + marks s → r ≡ sectionCount s → layingAt s p ≡ 0
+      last longer h = none (λ lies. ⊎-elim (λ e. omega (arith, e, l .ends)) (λ a. omega (arith, a .0, h, l .all, sections-count s)) (lies .ends))
+
+      module _ {y : Section} (is : y ≡ nthS (sections s) r) where
+        next : y ≡ nthS (sections s) (suc i)
+        next = is ∙ ap (nthS (sections s)) (l .all)
+
+        pub across : p < end → ¬ (r ≡ sectionCount s) → y .offset ≡ end → layingAt s p ≡ r
+        across begins h meets =
+            let weld = meets-weld (nthS (sections s) i) (nthS (sections s) (suc i)) (l .ends ∙ sym meets ∙ ap (λ x. x .offset) next) in
+            lies-laying s good (lies-across s good starts (omega (arith, h, l .all, l .begun .within, sections-count s)) weld (omega (arith, l .ends))) ∙ sym (l .all)
+
+        pub parted : end < p + marks s → ¬ (y .offset ≡ end) → layingAt s p ≡ 0
+        parted longer h = none (λ lies. ⊎-elim (λ e. omega (arith, e, l .ends)) (λ a. h (ap (λ x. x .offset) next ∙ sym (weld-meets (nthS (sections s) i) (nthS (sections s) (suc i)) (a .1)) ∙ l .ends)) (lies .ends))

@@ -75,7 +75,8 @@ fn begun(plan: &[u8], place: u64) -> u64
     low
 }
 
-// The number of the section that holds the whole window at a place, plus 1; 0 if none does.
+// The number of the section that the window at a place is laid in, plus 1; 0 if it is in none. No section is shorter than a window,
+// so one that crosses a welded joint ends in the next section.
 pub fn laying(plan: &[u8], place: u64) -> u64
     requires { ⌜ (planFault (now plan) ≡ 0) × (place < 2 ^ 60) ⌝ }
     ensures { λ r. ⌜ r ≡ layingAt (now (plan .entry)) place ⌝ }
@@ -85,8 +86,17 @@ pub fn laying(plan: &[u8], place: u64) -> u64
         return 0;
     }
     let section = sections::section_at(plan, looked - 1);
-    let last = place + plan[1] as u64;
-    if last <= section.offset + section.long {
+    let end = section.offset + section.long;
+    if end <= place {
+        return 0;
+    }
+    if place + plan[1] as u64 <= end {
+        return looked;
+    }
+    if looked == sections::count(plan) {
+        return 0;
+    }
+    if sections::section_at(plan, looked).offset == end {
         return looked;
     }
     0

@@ -1,19 +1,20 @@
 -- Laying plans: a window read wholly inside a section is found in that section, at its distance from the section's start.
 -- The place of a window is the place that it was read from (One-place).
 use mathlib.Core.Path.{_≡_, refl, sym, _∙_, ap, ap₂, subst}
-use mathlib.Core.Bool.{Bool, true, false, not}
+use mathlib.Core.Bool.{Bool, true, false, not, false≢true}
 use mathlib.Core.List.{List, [], _∷_}
-use mathlib.Core.Logic.{inl, inr}
+use mathlib.Core.Logic.{_⊎_, inl, inr, ⊎-elim, ⊎-map}
 use Prim.Native.Nat.{ℕ, zero, suc, _+_, _-_, _^_, _≤_, _<_}
 use native.Mathlib.Omega.{arith}
 use native.Mathlib.Nat.{add-zero, add-suc, suc-add, zero-add}
-use lib.Dec.{eqb, leb}
+use native.Mathlib.Decide.{ℕ-discrete}
+use lib.Dec.{eqb, ltb, leb}
 use lib.ListN.{length, drop}
-use borrow.Author.Tests.{leb-true, le-leb, lt-leb, eq-eqb, ne-eqb, eqb-true, eqb-false, not-true, not-false}
+use borrow.Author.Tests.{leb-true, le-leb, ltb-true, lt-ltb, le-ltb, eq-eqb, ne-eqb, eqb-true, eqb-false, not-true, not-false}
 use Rattle.theory.specs.Words.{firstOf, when, marksOk}
 use Rattle.theory.specs.Strips.{admitted, strip, window, placeOf}
-use Rattle.theory.specs.Plans.{Section, shades, marks, wordFault, sectionCount, sectionsFrom, sections, torn, straightFrom, planFault, holdsAt, layingFrom, nthS, layingAt, laidAt, layingOf, distanceOf, lookupFault}
-use Rattle.theory.specs.Theorems.{Laid, Laid-only, Laid-at}
+use Rattle.theory.specs.Plans.{Section, endOf, shades, marks, wordFault, sectionCount, sectionsFrom, sections, torn, straightFrom, planFault, welded, reach, holdsAt, layingFrom, nthS, layingAt, laidAt, layingOf, distanceOf, lookupFault}
+use Rattle.theory.specs.Theorems.{Laid, Laid-across, Across, Lies, Laid-where, Laid-only, Laid-at}
 use Rattle.theory.proofs.Base.{test, and-l, and-r, and-in, and-false}
 use Rattle.theory.proofs.Reading.{letters-length}
 use Rattle.theory.proofs.Rings.{admitted-range, one-place, window-marks}
@@ -38,45 +39,108 @@ sections-count s = sections-length (sectionCount s) (drop 4 s)
 pub record Straight (n top end : ℕ) (x : Section) : Type 0 where
   pub starts : end ≤ x .offset
   pub wide : n ≤ x .long
-  pub ends : x .offset + x .long ≤ top
+  pub ends : endOf x ≤ top
 
 straight-first : (n top end : ℕ) (x : Section) (xs : List Section) → straightFrom n top end (x ∷ xs) ≡ true
-    → Straight n top end x × (straightFrom n top (x .offset + x .long) xs ≡ true)
+    → Straight n top end x × (straightFrom n top (endOf x) xs ≡ true)
 straight-first n top end x xs h =
     let a = and-l (leb end (x .offset)) _ h in
     let b = and-r (leb end (x .offset)) _ h in
     let c = and-r (leb n (x .long)) _ b in
-    (record { starts = leb-true _ _ a; wide = leb-true _ _ (and-l (leb n (x .long)) _ b); ends = leb-true _ _ (and-l (leb (x .offset + x .long) top) _ c) }, and-r (leb (x .offset + x .long) top) _ c)
+    (record { starts = leb-true _ _ a; wide = leb-true _ _ (and-l (leb n (x .long)) _ b); ends = leb-true _ _ (and-l (leb (endOf x) top) _ c) }, and-r (leb (endOf x) top) _ c)
 
 pub straight-at : (n top end : ℕ) (xs : List Section) (i : ℕ) → straightFrom n top end xs ≡ true → i < length xs → Straight n top end (nthS xs i)
 straight-at n top end [] i h b = absurd (omega arith)
 straight-at n top end (x ∷ xs) zero h b = straight-first n top end x xs h .0
 straight-at n top end (x ∷ xs) (suc i) h b =
     let (f, g) = straight-first n top end x xs h in
-    let r = straight-at n top (x .offset + x .long) xs i g (omega arith) in
+    let r = straight-at n top (endOf x) xs i g (omega arith) in
     record { starts = omega arith; wide = r .wide; ends = r .ends }
 
 -- each section ends before any later one begins, or where it begins
 pub straight-apart : (n top end : ℕ) (xs : List Section) (i j : ℕ) → straightFrom n top end xs ≡ true → i < j → j < length xs
-    → nthS xs i .offset + nthS xs i .long ≤ nthS xs j .offset
+    → endOf (nthS xs i) ≤ nthS xs j .offset
 straight-apart n top end [] i j h l b = absurd (omega arith)
 straight-apart n top end (x ∷ xs) i zero h l b = absurd (omega arith)
-straight-apart n top end (x ∷ xs) zero (suc j) h l b = straight-at n top (x .offset + x .long) xs j (straight-first n top end x xs h .1) (omega arith) .starts
+straight-apart n top end (x ∷ xs) zero (suc j) h l b = straight-at n top (endOf x) xs j (straight-first n top end x xs h .1) (omega arith) .starts
 straight-apart n top end (x ∷ xs) (suc i) (suc j) h l b =
-    straight-apart n top (x .offset + x .long) xs i j (straight-first n top end x xs h .1) (omega arith) (omega arith)
+    straight-apart n top (endOf x) xs i j (straight-first n top end x xs h .1) (omega arith) (omega arith)
 
--- sections do not overlap, so the first that holds a window is the only one
-pub laying-at : (n top end : ℕ) (xs : List Section) (i j p : ℕ) → 1 ≤ n → straightFrom n top end xs ≡ true → i < length xs
-    → nthS xs i .offset ≤ p → p + n ≤ nthS xs i .offset + nthS xs i .long → layingFrom j p n xs ≡ suc (j + i)
-laying-at n top end [] i j p o h b f g = absurd (omega arith)
-laying-at n top end (x ∷ xs) zero j p o h b f g =
-    let t : holdsAt p n x ≡ true = and-in (le-leb _ _ f) (le-leb _ _ g) in
-    rw (t, layingFrom) (ap suc (sym (add-zero j)))
-laying-at n top end (x ∷ xs) (suc i) j p o h b f g =
-    let (_, tail) = straight-first n top end x xs h in
-    let r = straight-at n top (x .offset + x .long) xs i tail (omega arith) in
-    let t : holdsAt p n x ≡ false = and-false (leb (x .offset) p) _ (lt-leb (p + n) (x .offset + x .long) (omega arith)) in
-    rw (t, layingFrom) (laying-at n top (x .offset + x .long) xs i (suc j) p o tail (omega arith) f g ∙ ap suc (suc-add j i ∙ sym (add-suc j i)))
+-- welded sections meet
+pub weld-meets : (x y : Section) → welded x y ≡ true → endOf x ≡ y .offset
+weld-meets x y t = eqb-true _ _ t
+
+pub meets-weld : (x y : Section) → endOf x ≡ y .offset → welded x y ≡ true
+meets-weld x y e = eq-eqb _ _ e
+
+-- how far a section is read: to its own end, or over a welded joint
+reach-to : (x : Section) (xs : List Section) (q : ℕ) → (q ≤ endOf x) ⊎ Across (x ∷ xs) 0 q → q ≤ reach x xs
+reach-to x [] q (inl h) = h
+reach-to x [] q (inr h) = absurd (omega (arith, h .0))
+reach-to x (y ∷ xs) q h = elim (test (welded x y)) [ inl t ↦ rw (t, reach) (on t h) | inr t ↦ rw (t, reach) (own t h) ]
+  where
+    on : welded x y ≡ true → (q ≤ endOf x) ⊎ Across (x ∷ y ∷ xs) 0 q → q ≤ endOf y
+    on t (inl g) = omega (arith, weld-meets x y t)
+    on t (inr g) = g .2
+
+    own : welded x y ≡ false → (q ≤ endOf x) ⊎ Across (x ∷ y ∷ xs) 0 q → q ≤ endOf x
+    own t (inl g) = g
+    own t (inr g) = absurd (false≢true (sym t ∙ g .1))
+
+reach-how : (x : Section) (xs : List Section) (q : ℕ) → q ≤ reach x xs → (q ≤ endOf x) ⊎ Across (x ∷ xs) 0 q
+reach-how x [] q h = inl h
+reach-how x (y ∷ xs) q h = elim (test (welded x y)) [ inl t ↦ inr (omega arith, t, rw (t, reach) at h) | inr t ↦ inl (rw (t, reach) at h) ]
+
+module _ {n p : ℕ} {x : Section} {xs : List Section} where
+  -- lying in the first section is its test
+  lies-holds : Lies n (x ∷ xs) 0 p → holdsAt p n x xs ≡ true
+  lies-holds l = and-in (le-leb _ _ (l .starts)) (and-in (lt-ltb _ _ (l .begins)) (le-leb _ _ (reach-to x xs (p + n) (l .ends))))
+
+  holds-lies : holdsAt p n x xs ≡ true → Lies n (x ∷ xs) 0 p
+  holds-lies t =
+      let u = and-r (leb (x .offset) p) _ t in
+      record {
+        listed = omega arith;
+        starts = leb-true _ _ (and-l (leb (x .offset) p) _ t);
+        begins = ltb-true _ _ (and-l (ltb p (endOf x)) _ u);
+        ends = reach-how x xs (p + n) (leb-true _ _ (and-r (ltb p (endOf x)) _ u));
+      }
+
+  -- lying in a later section is lying in one of the rest
+  lies-rest : {i : ℕ} → Lies n (x ∷ xs) (suc i) p → Lies n xs i p
+  lies-rest l = record { listed = omega (arith, l .listed); starts = l .starts; begins = l .begins; ends = ⊎-map (λ h. h) (λ (c, weld, on). (omega (arith, c), weld, on)) (l .ends) }
+
+  rest-lies : {i : ℕ} → Lies n xs i p → Lies n (x ∷ xs) (suc i) p
+  rest-lies l = record { listed = omega (arith, l .listed); starts = l .starts; begins = l .begins; ends = ⊎-map (λ h. h) (λ (c, weld, on). (omega (arith, c), weld, on)) (l .ends) }
+
+-- sections do not overlap, so a window that lies in one begins behind those ahead of it
+laying-at : (n top end : ℕ) (xs : List Section) (i j p : ℕ) → straightFrom n top end xs ≡ true → Lies n xs i p → layingFrom j p n xs ≡ suc (j + i)
+laying-at n top end [] i j p h l = absurd (omega (arith, l .listed))
+laying-at n top end (x ∷ xs) zero j p h l = rw (lies-holds l, layingFrom) (ap suc (sym (add-zero j)))
+laying-at n top end (x ∷ xs) (suc i) j p h l =
+    let tail = straight-first n top end x xs h .1 in
+    let on = lies-rest l in
+    let r = straight-at n top (endOf x) xs i tail (on .listed) in
+    let t : holdsAt p n x xs ≡ false = and-false (leb (x .offset) p) _ (rw (le-ltb p (endOf x) (omega (arith, r .starts, on .starts)))) in
+    rw (t, layingFrom) (laying-at n top (endOf x) xs i (suc j) p tail on ∙ ap suc (suc-add j i ∙ sym (add-suc j i)))
+
+-- and the section that is answered is one where it lies
+record Found (j p n : ℕ) (xs : List Section) : Type 0 where
+  index : ℕ
+  is : layingFrom j p n xs ≡ suc (j + index)
+  lies : Lies n xs index p
+
+laying-found : (j p n : ℕ) (xs : List Section) → ¬ (layingFrom j p n xs ≡ 0) → Found j p n xs
+laying-found j p n [] h = absurd (h refl)
+laying-found j p n (x ∷ xs) h = elim (test (holdsAt p n x xs)) [ inl t ↦ first t | inr t ↦ later t (laying-found (suc j) p n xs (λ e. h (rw (t, layingFrom) e))) ]
+  where
+    first : holdsAt p n x xs ≡ true → Found j p n (x ∷ xs)
+    first t = record { index = 0; is = rw (t, layingFrom) (ap suc (sym (add-zero j))); lies = holds-lies t }
+
+    later : holdsAt p n x xs ≡ false → Found (suc j) p n xs → Found j p n (x ∷ xs)
+    later t f =
+        let on : layingFrom j p n (x ∷ xs) ≡ layingFrom (suc j) p n xs = rw (t, layingFrom) refl in
+        record { index = suc (f .index); is = on ∙ f .is ∙ ap suc (suc-add j (f .index) ∙ sym (add-suc j (f .index))); lies = rest-lies (f .lies) }
 
 -- the lookup's answers from the place and the section
 module _ (s w : List ℕ) (i d p : ℕ) (good : planFault s ≡ 0) (long : length w ≡ marks s) (ok : marksOk (shades s) w ≡ true)
@@ -96,54 +160,72 @@ module _ (s w : List ℕ) (i d p : ℕ) (good : planFault s ≡ 0) (long : lengt
           → firstOf a (firstOf (firstOf (when (not b) 2) (when (not c) 3)) (when e 9)) ≡ 0
       none a b c e x y z t = rw (x, y, z, t)
 
--- a window that a plan's section holds whole: the section starts at its offset, d letters before the window
+-- the windows of an accepted plan
+module _ (s : List ℕ) (good : planFault s ≡ 0) where
+  abbrev top : ℕ
+  top = shades s ^ marks s
+
+  straight : straightFrom (marks s) top 0 (sections s) ≡ true
+  straight = plan-good s good .2
+
+  section-straight : (i : ℕ) → i < length (sections s) → Straight (marks s) top 0 (nthS (sections s) i)
+  section-straight i h = straight-at (marks s) top 0 (sections s) i straight h
+
+  -- n letters lie in the section that holds the first, if it holds the last; over a welded joint always, since the next section is no shorter
+  module _ {i p : ℕ} (starts : nthS (sections s) i .offset ≤ p) where
+    pub lies-inside : i < length (sections s) → p + marks s ≤ endOf (nthS (sections s) i) → Lies (marks s) (sections s) i p
+    lies-inside h ends =
+        let one = admitted-range (shades s) (marks s) (plan-good s good .1) .1 in
+        record { listed = h; starts = starts; begins = omega arith; ends = inl ends }
+
+    pub lies-across : suc i < length (sections s) → welded (nthS (sections s) i) (nthS (sections s) (suc i)) ≡ true → p < endOf (nthS (sections s) i)
+        → Lies (marks s) (sections s) i p
+    lies-across h weld begins =
+        let wide = section-straight (suc i) h .wide in
+        let meets = weld-meets (nthS (sections s) i) (nthS (sections s) (suc i)) weld in
+        record { listed = omega arith; starts = starts; begins = begins; ends = inr (h, weld, omega arith) }
+
+  pub lies-laying : {i p : ℕ} → Lies (marks s) (sections s) i p → layingAt s p ≡ suc i
+  lies-laying {i} {p} l = laying-at (marks s) top 0 (sections s) i 0 p straight l ∙ ap suc (zero-add i)
+
+  pub laying-lies : {i p : ℕ} → layingAt s p ≡ suc i → Lies (marks s) (sections s) i p
+  laying-lies {i} {p} e =
+      let f = laying-found 0 p (marks s) (sections s) (λ z. omega (arith, e, z)) in
+      subst (λ j. Lies (marks s) (sections s) j p) (omega (arith, e, f .is)) (f .lies)
+
+  -- a window that lies in a section is read where it lies, and nowhere else
+  pub lies-place : {i p : ℕ} → Lies (marks s) (sections s) i p → placeOf (shades s) (marks s) (window (shades s) (marks s) p) ≡ p
+  lies-place {i} {p} lies =
+      let (two, one) = admitted-range (shades s) (marks s) (plan-good s good .1) in
+      one-place .only (shades s) (marks s) p (window (shades s) (marks s) p) two one (omega (arith, lies .begins, section-straight i (lies .listed) .ends)) refl
+
+  -- at distance d in section i
+  module _ (i d : ℕ) (lies : Lies (marks s) (sections s) i (nthS (sections s) i .offset + d)) where
+    abbrev seen : List ℕ
+    seen = window (shades s) (marks s) (nthS (sections s) i .offset + d)
+
+    in-section : (lookupFault s seen ≡ 0) × (layingOf s seen ≡ suc i) × (distanceOf s seen ≡ d)
+    in-section =
+        let p = nthS (sections s) i .offset + d in
+        let (two, one) = admitted-range (shades s) (marks s) (plan-good s good .1) in
+        let place = lies-place lies in
+        let laying = lies-laying lies in
+        let long = letters-length (shades s ^ marks s) (strip (shades s) (marks s)) p (marks s) in
+        let ok = window-marks (shades s) (marks s) p two one in
+        (no-fault s seen i d p good long ok place laying refl, answer s seen i d p good long ok place laying refl, distance s seen i d p good long ok place laying refl)
+
+pub laid-where : Laid-where
+laid-where s i p good = (laying-lies s good, lies-laying s good)
+
 pub laid : Laid
-laid s i d good b h =
-    let (_, fit, straight) = plan-good s good in
-    let (two, one) = admitted-range (shades s) (marks s) fit in
-    let p = nthS (sections s) i .offset + d in
-    let w = window (shades s) (marks s) p in
-    let c : i < length (sections s) = omega (arith, sections-count s) in
-    let x = straight-at (marks s) (shades s ^ marks s) 0 (sections s) i straight c in
-    let place = one-place .only (shades s) (marks s) p w two one (omega arith) refl in
-    let laying = laying-at (marks s) (shades s ^ marks s) 0 (sections s) i 0 p one straight c (omega arith) (omega arith) ∙ ap suc (zero-add i) in
-    let long = letters-length (shades s ^ marks s) (strip (shades s) (marks s)) p (marks s) in
-    let ok = window-marks (shades s) (marks s) p two one in
-    (no-fault s w i d p good long ok place laying refl, answer s w i d p good long ok place laying refl, distance s w i d p good long ok place laying refl)
+laid s i d good b h = in-section s good i d (lies-inside s good (omega arith) (omega (arith, sections-count s)) (omega arith))
 
--- the section that is answered holds the window
-pub record Found (j p n : ℕ) (xs : List Section) : Type 0 where
-  pub index : ℕ
-  pub inside : index < length xs
-  pub is : layingFrom j p n xs ≡ suc (j + index)
-  pub starts : nthS xs index .offset ≤ p
-  pub ends : p + n ≤ nthS xs index .offset + nthS xs index .long
+pub laid-across : Laid-across
+laid-across s i d good b weld h = in-section s good i d (lies-across s good (omega arith) (omega (arith, sections-count s)) weld (omega arith))
 
-pub laying-found : (j p n : ℕ) (xs : List Section) → ¬ (layingFrom j p n xs ≡ 0) → Found j p n xs
-laying-found j p n [] h = absurd (h refl)
-laying-found j p n (x ∷ xs) h = elim (test (holdsAt p n x)) [ inl t ↦ first t | inr t ↦ later t (laying-found (suc j) p n xs (λ e. h (rw (t, layingFrom) e))) ]
-  where
-    first : holdsAt p n x ≡ true → Found j p n (x ∷ xs)
-    first t =
-        record {
-          index = 0;
-          inside = omega arith;
-          is = rw (t, layingFrom) (ap suc (sym (add-zero j)));
-          starts = leb-true _ _ (and-l (leb (x .offset) p) _ t);
-          ends = leb-true _ _ (and-r (leb (x .offset) p) _ t);
-        }
-
-    later : holdsAt p n x ≡ false → Found (suc j) p n xs → Found j p n (x ∷ xs)
-    later t f =
-        let on : layingFrom j p n (x ∷ xs) ≡ layingFrom (suc j) p n xs = rw (t, layingFrom) refl in
-        record { index = suc (f .index); inside = omega (arith, f .inside); is = on ∙ f .is ∙ ap suc (suc-add j (f .index) ∙ sym (add-suc j (f .index))); starts = f .starts; ends = f .ends }
-
--- no section holds the window
-pub unlaid : (j p n : ℕ) (xs : List Section) → ((i : ℕ) → i < length xs → nthS xs i .offset ≤ p → nthS xs i .offset + nthS xs i .long < p + n) → layingFrom j p n xs ≡ 0
-unlaid j p n xs none = elim (test (eqb (layingFrom j p n xs) 0)) [ inl t ↦ eqb-true _ _ t | inr t ↦ absurd (never (laying-found j p n xs (eqb-false _ _ t))) ]
-  where
-    never : Found j p n xs → ⊥
-    never f = let late = none (f .index) (f .inside) (f .starts) in omega (arith, f .ends)
+-- where no section has the window, it is laid in none
+pub unlaid : (s : List ℕ) (p : ℕ) → ((i : ℕ) → ¬ Lies (marks s) (sections s) i p) → layingAt s p ≡ 0
+unlaid s p none = elim (ℕ-discrete (layingAt s p) 0) [ yes z ↦ z | no z ↦ let f = laying-found 0 p (marks s) (sections s) z in absurd (none (f .index) (f .lies)) ]
 
 -- no fault, so the plan and the word have none, and a section was found
 pub lookup-good : (s w : List ℕ) → lookupFault s w ≡ 0 → (planFault s ≡ 0) × (wordFault (shades s) (marks s) w ≡ 0) × (when (eqb (layingOf s w) 0) 9 ≡ 0)
@@ -159,27 +241,21 @@ laid-some s p laid = eqb-false (layingAt s p) 0 (not-true _ laid)
 pub some-laid : (s : List ℕ) (p : ℕ) → ¬ (layingAt s p ≡ 0) → laidAt s p ≡ true
 some-laid s p some = ap not (ne-eqb (layingAt s p) 0 some)
 
--- the section that a laid window is answered with, from its place p
-record Inside (s : List ℕ) (p : ℕ) (i : ℕ) : Type 0 where
-  listed : i < length (sections s)
-  starts : nthS (sections s) i .offset ≤ p
-  ends : p + marks s ≤ nthS (sections s) i .offset + nthS (sections s) i .long
-
-inside : (s : List ℕ) (p : ℕ) → ¬ (layingAt s p ≡ 0) → Inside s p (layingAt s p - 1)
-inside s p h =
-    let f = laying-found 0 p (marks s) (sections s) h in
-    let e : f .index ≡ layingAt s p - 1 = omega (arith, f .is) in
-    subst (Inside s p) e (record { listed = f .inside; starts = f .starts; ends = f .ends })
+-- the section that a laid window is answered with
+lies-there : (s : List ℕ) (p : ℕ) → planFault s ≡ 0 → ¬ (layingAt s p ≡ 0) → Lies (marks s) (sections s) (layingAt s p - 1) p
+lies-there s p good some = laying-lies s good (omega (arith, some))
 
 pub laid-only : Laid-only
 laid-only s w h =
-    let (_, _, looked) = lookup-good s w h in
-    let x = inside s (placeOf (shades s) (marks s) w) (eqb-false (layingOf s w) 0 (when-none (eqb (layingOf s w) 0) 9 (λ z. omega arith) looked)) in
-    (omega (arith, x .listed, sections-count s), omega (arith, x .starts), omega (arith, x .starts, x .ends))
+    let (good, _, looked) = lookup-good s w h in
+    let l = lies-there s (placeOf (shades s) (marks s) w) good (eqb-false (layingOf s w) 0 (when-none (eqb (layingOf s w) 0) 9 (λ z. omega arith) looked)) in
+    (omega (arith, l .listed, sections-count s), omega (arith, l .starts), l)
 
+-- both sections end by the strip's end
 pub laid-at : Laid-at
 laid-at s p good laid =
-    let x = inside s p (laid-some s p laid) in
-    let (_, _, straight) = plan-good s good in
-    let y = straight-at (marks s) (shades s ^ marks s) 0 (sections s) (layingAt s p - 1) straight (x .listed) in
-    (omega (arith, x .listed, sections-count s), omega (arith, x .starts), omega (arith, x .ends, y .ends))
+    let l = lies-there s p good (laid-some s p laid) in
+    let i = layingAt s p - 1 in
+    let ends : p + marks s ≤ shades s ^ marks s =
+    ⊎-elim (λ h. omega (arith, h, section-straight s good i (l .listed) .ends)) (λ h. omega (arith, h .2, section-straight s good (suc i) (h .0) .ends)) (l .ends) in
+    (omega (arith, l .listed, sections-count s), omega (arith, l .starts), ends)

@@ -4,7 +4,7 @@ use mathlib.Core.List.{List, [], _∷_}
 use Prim.Native.Nat.{ℕ, zero, suc, _+_, _-_, _*_, _^_}
 use lib.Dec.{eqb, ltb, leb}
 use lib.ListN.{length, getD, take, drop}
-use Rattle.theory.specs.Words.{firstOf, when, marksOk}
+use Rattle.theory.specs.Words.{pick, firstOf, when, marksOk}
 use Rattle.theory.specs.Strips.{admitted, placeOf}
 
 -- numbers with the highest byte first
@@ -19,6 +19,10 @@ be i n s = beFrom 0 (take n (drop i s))
 pub record Section : Type 0 where
   pub offset : ℕ
   pub long : ℕ
+
+-- the place behind its last letter
+abbrev pub endOf : Section → ℕ
+endOf x = x .offset + x .long
 
 abbrev pub shades : List ℕ → ℕ
 shades s = getD s 0 0
@@ -43,7 +47,7 @@ torn s = ltb (length s) 4 || (ltb 500 (sectionCount s) || not (eqb (length s) (4
 abbrev pub straightFrom : ℕ → ℕ → ℕ → List Section → Bool
 straightFrom n top end [] = true
 straightFrom n top end (x ∷ xs) =
-    leb end (x .offset) && (leb n (x .long) && (leb (x .offset + x .long) top && straightFrom n top (x .offset + x .long) xs))
+    leb end (x .offset) && (leb n (x .long) && (leb (endOf x) top && straightFrom n top (endOf x) xs))
 
 abbrev pub planFault : List ℕ → ℕ
 planFault s =
@@ -51,13 +55,22 @@ planFault s =
     (when (torn s) 7)
     (firstOf (when (not (admitted (shades s) (marks s))) 1) (when (not (straightFrom (marks s) (shades s ^ marks s) 0 (sections s))) 8))
 
--- does a section hold the whole window at a place; the number of the first that does, plus 1, or 0
-abbrev pub holdsAt : ℕ → ℕ → Section → Bool
-holdsAt p n x = leb (x .offset) p && leb (p + n) (x .offset + x .long)
+-- is the joint of a section and the next in the list welded: does this one end at the place where that one begins
+abbrev pub welded : Section → Section → Bool
+welded x y = eqb (endOf x) (y .offset)
+
+-- how far a window that begins in a section is read: to its end or, over a welded joint, to the end of the next; xs are the sections behind it
+abbrev pub reach : Section → List Section → ℕ
+reach x [] = endOf x
+reach x (y ∷ xs) = pick (welded x y) (endOf y) (endOf x)
+
+-- a window is laid in the section that holds its first letter, if it is read to its last; the number of the first such section, plus 1, or 0
+abbrev pub holdsAt : ℕ → ℕ → Section → List Section → Bool
+holdsAt p n x xs = leb (x .offset) p && (ltb p (endOf x) && leb (p + n) (reach x xs))
 
 abbrev pub layingFrom : ℕ → ℕ → ℕ → List Section → ℕ
 layingFrom i p n [] = 0
-layingFrom i p n (x ∷ xs) = elim (holdsAt p n x) [ true ↦ suc i | false ↦ layingFrom (suc i) p n xs ]
+layingFrom i p n (x ∷ xs) = elim (holdsAt p n x xs) [ true ↦ suc i | false ↦ layingFrom (suc i) p n xs ]
 
 -- what stands behind the last section
 abbrev pub noSection : Section

@@ -2,7 +2,7 @@
 use mathlib.Core.Path.{_≡_}
 use mathlib.Core.Bool.{Bool, true, false, _&&_}
 use mathlib.Core.List.{List, [], _∷_, _++_}
-use mathlib.Core.Logic.{_↔_, _≢_}
+use mathlib.Core.Logic.{_⊎_, _↔_, _≢_}
 use Prim.Native.Nat.{ℕ, suc, _+_, _-_, _*_, _^_, _≤_, _<_}
 use lib.IntN.{ℤ, pos, natAbs}
 use lib.Dec.{eqb, ltb, leb}
@@ -16,7 +16,7 @@ use Rattle.theory.specs.Search.{leastWord}
 use Rattle.theory.specs.Rings.{upWords, lyndonsUp, divides, Allowed, ringWords, ring, modulo, letterOn, lettersOn, Cursor, Stepped, goodOn, beforeW, positionOn, cursorOn, passedBy, passedTo, passedDown, stepOn, backOn, readOn, beside, pathEnd, pathLetters, walkEnd, walkLetters, windowOn, placeOn}
 use Rattle.theory.specs.Steps.{extension, nextLyndon, previousLyndon, period}
 use Rattle.theory.specs.Strips.{admitted, stripWords, strip, markAt, marksFrom, window, placeOf, cursorOk, placeIn, cursorAt, stepOf, backOf}
-use Rattle.theory.specs.Plans.{planFault, sectionCount, shades, marks, sections, nthS, layingAt, laidAt, distanceAt, lookupFault, layingOf, distanceOf}
+use Rattle.theory.specs.Plans.{Section, endOf, planFault, sectionCount, shades, marks, sections, welded, nthS, layingAt, laidAt, distanceAt, lookupFault, layingOf, distanceOf}
 use Rattle.theory.specs.Erasures.{unread, read, agrees, fitting, filling, smudgeFault, smudgedFault}
 use Rattle.theory.specs.Marked.{Marked}
 
@@ -196,13 +196,36 @@ Laid =
     → let w = window (shades s) (marks s) (nthS (sections s) i .offset + d) in
     (lookupFault s w ≡ 0) × (layingOf s w ≡ suc i) × (distanceOf s w ≡ d)
 
--- And only there: what the lookup answers is a section that holds the window whole.
+-- The same over a welded joint, from each place of the section ahead of it. Where the window ends is not asked: never behind the next section, which is no shorter.
+abbrev pub Laid-across : Type 0
+Laid-across =
+    (s : List ℕ) (i d : ℕ) → planFault s ≡ 0 → suc i < sectionCount s → welded (nthS (sections s) i) (nthS (sections s) (suc i)) ≡ true
+    → d < nthS (sections s) i .long
+    → let w = window (shades s) (marks s) (nthS (sections s) i .offset + d) in
+    (lookupFault s w ≡ 0) × (layingOf s w ≡ suc i) × (distanceOf s w ≡ d)
+
+-- Over the joint of section i, which is welded, up to the place q, which the next section still holds.
+abbrev pub Across : List Section → ℕ → ℕ → Type 0
+Across xs i q = (suc i < length xs) × (welded (nthS xs i) (nthS xs (suc i)) ≡ true) × (q ≤ endOf (nthS xs (suc i)))
+
+-- The n letters from p on lie in section i: the first of them does, and the last too or, over a welded joint, in the next section.
+pub record Lies (n : ℕ) (xs : List Section) (i p : ℕ) : Type 0 where
+  pub listed : i < length xs
+  pub starts : nthS xs i .offset ≤ p
+  pub begins : p < endOf (nthS xs i)
+  pub ends : (p + n ≤ endOf (nthS xs i)) ⊎ Across xs i (p + n)
+
+-- The section that the window at a place is laid in is the one where it lies, and there is no other; so it is laid in none just where it lies in none.
+abbrev pub Laid-where : Type 0
+Laid-where = (s : List ℕ) (i p : ℕ) → planFault s ≡ 0 → (layingAt s p ≡ suc i) ↔ Lies (marks s) (sections s) i p
+
+-- What the lookup answers is true: the window lies in that section, at that distance from its start.
 abbrev pub Laid-only : Type 0
 Laid-only =
     (s w : List ℕ) → lookupFault s w ≡ 0
     → let i = layingOf s w - 1 in
-    let x = nthS (sections s) i in
-    (i < sectionCount s) × (x .offset + distanceOf s w ≡ placeOf (shades s) (marks s) w) × (distanceOf s w + marks s ≤ x .long)
+    let p = placeOf (shades s) (marks s) w in
+    (i < sectionCount s) × (nthS (sections s) i .offset + distanceOf s w ≡ p) × Lies (marks s) (sections s) i p
 
 -- The window at a place that is laid, in an accepted plan: its section, its distance there, and that it does not run over the strip's end.
 abbrev pub Laid-at : Type 0
@@ -309,6 +332,8 @@ pub record Theorems : Type 0 where
   pub one-place : One-place
   pub cursors : Cursors
   pub laid : Laid
+  pub laid-across : Laid-across
+  pub laid-where : Laid-where
   pub laid-only : Laid-only
   pub laid-at : Laid-at
   pub smudged : Smudged

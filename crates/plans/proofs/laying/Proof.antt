@@ -1,14 +1,19 @@
--- laying: only the last section that begins at the place or before it can hold the window.
-use Prim.Native.Nat.{_-_}
+-- laying: only the last section that begins at the place or before it can hold the window's first letter.
+use Prim.Native.Nat.{_+_, _-_}
 use mathlib.Core.Path.{sym, subst}
 use native.Mathlib.Omega.{arith}
 use borrow.Author.Needs.{needs}
 use Rattle.theory.specs.Plans.{sections}
 use Rattle.theory.proofs.Laying.{plan-good, sections-count}
 use Rattle.sections.proofs.Whole.{accepted-whole}
+use Rattle.sections.proofs.count.Reads as count-reads
+use Rattle.sections.proofs.section_at.Reads as section-at-reads
 use Rattle.plans.specs.Begun.{Begun}
-use Rattle.plans.proofs.Places.{ends-fit, nowhere, held, beyond}
+use Rattle.plans.proofs.Places.{Looked, look, end-fits, nowhere, passed, whole, last, across, parted}
+use Rattle.plans.proofs.begun.Reads as begun-reads
 use Rattle.plans.proofs.laying.Statement.{statement}
+use Rattle.plans.proofs.laying.Reads as reads
+use Rattle.plans.proofs.laying.Lts as lts
 use Rattle.plans.proofs.laying.Tie as tie
 
 begun-requires : tie.Need-begun-requires
@@ -27,34 +32,66 @@ section-at-requires c κs =
     let f = c .before .before .before in
     (plan-good (f .args .plan .now) (f .pre .0) .0, omega (arith, c .before .begun .ensures .within, sections-count (f .args .plan .now)))
 
-shared-slice-read-last : tie.Need-shared-slice-read-last
-shared-slice-read-last c =
+-- the section that is looked at
+abbrev Section-read : Type 0
+Section-read = lts.After-struct-known (begun-reads.Asked, begun-reads.Learnt, section-at-reads.Asked, section-at-reads.Learnt, count-reads.Asked, count-reads.Learnt) reads.Pre reads.Post
+
+seen : (c : Section-read)
+    → let f = c .before .before .before .before .before in
+    Looked (f .args .plan .now) (f .pre .0) (f .args .place) (c .before .before .before .begun .result) (c .before .section-at .result .offset + c .before .section-at .result .long)
+seen c =
     let f = c .before .before .before .before .before in
-    omega (arith, accepted-whole (f .args .plan .now) (f .pre .0))
+    look (f .args .plan .now) (f .pre .0) (f .args .place) (c .before .before .before .begun .ensures) (omega arith) (c .before .section-at .ensures)
 
-cast-last : tie.Need-cast-last
-cast-last c = omega (arith, c .shared-slice-known2 .given 1)
-
-add-last : tie.Need-add-last
-add-last c = omega (arith, c .shared-slice-known2 .given 1)
-
-add-if2 : tie.Need-add-if2
-add-if2 c =
-    let e = c .before .before .before in
-    let f = e .before .before .before in
-    omega (arith, ends-fit (f .args .plan .now) (f .pre .0) (f .args .place) (e .before .begun .ensures) (omega arith) (c .before .before .section-at .ensures))
+add-end : tie.Need-add-end
+add-end c = let f = c .before .before .before .before .before in omega (arith, end-fits (f .args .plan .now) (f .pre .0) (f .args .place) (seen c))
 
 returns-2 : tie.Need-returns-2
 returns-2 c =
-    let e = c .before .before .before .before in
-    let f = e .before .before .before in
-    sym (held (f .args .plan .now) (f .pre .0) (f .args .place) (e .before .begun .ensures) (omega arith) (c .before .before .before .section-at .ensures) (c .if2 .taken))
+    let f = c .before .before .before .before .before .before in
+    sym (passed (f .args .plan .now) (f .pre .0) (f .args .place) (seen (c .before)) (c .if2 .taken))
+
+shared-slice-read-if3 : tie.Need-shared-slice-read-if3
+shared-slice-read-if3 c =
+    let f = c .before .before .before .before .before .before .before in
+    omega (arith, accepted-whole (f .args .plan .now) (f .pre .0))
+
+cast-if3 : tie.Need-cast-if3
+cast-if3 c = omega (arith, c .shared-slice-known2 .given 1)
+
+add-if3 : tie.Need-add-if3
+add-if3 c = omega (arith, c .shared-slice-known2 .given 1)
 
 returns-3 : tie.Need-returns-3
 returns-3 c =
-    let e = c .before .before .before .before in
-    let f = e .before .before .before in
-    sym (beyond (f .args .plan .now) (f .pre .0) (f .args .place) (e .before .begun .ensures) (omega arith) (c .before .before .before .section-at .ensures) (c .if2 .left))
+    let f = c .before .before .before .before .before .before .before .before in
+    sym (whole (f .args .plan .now) (f .pre .0) (f .args .place) (seen (c .before .before .before)) (c .if3 .taken))
+
+count-requires : tie.Need-count-requires
+count-requires c κs = let f = c .before .before .before .before .before .before .before .before in plan-good (f .args .plan .now) (f .pre .0) .0
+
+returns-4 : tie.Need-returns-4
+returns-4 c =
+    let e = c .before .before in
+    let f = e .before .before .before .before .before .before .before .before in
+    sym (last (f .args .plan .now) (f .pre .0) (f .args .place) (seen (e .before .before .before)) (e .if3 .left) (omega arith))
+
+section-at-requires-2 : tie.Need-section-at-requires-2
+section-at-requires-2 c κs =
+    let f = c .before .before .before .before .before .before .before .before .before .before in
+    (plan-good (f .args .plan .now) (f .pre .0) .0, omega (arith, c .before .before .before .before .before .before .before .before .begun .ensures .within, sections-count (f .args .plan .now)))
+
+returns-5 : tie.Need-returns-5
+returns-5 c =
+    let e = c .before .before .before .before .before in
+    let f = e .before .before .before .before .before .before .before .before in
+    sym (across (f .args .plan .now) (f .pre .0) (f .args .place) (seen (e .before .before .before)) (c .before .before .section-at2 .ensures) (omega arith) (λ z. omega (arith, z)) (c .if5 .taken))
+
+returns-6 : tie.Need-returns-6
+returns-6 c =
+    let e = c .before .before .before .before .before in
+    let f = e .before .before .before .before .before .before .before .before in
+    sym (parted (f .args .plan .now) (f .pre .0) (f .args .place) (seen (e .before .before .before)) (c .before .before .section-at2 .ensures) (e .if3 .left) (c .if5 .left))
 
 pub laying-spec : {M : Type 1} → statement M
 laying-spec =
@@ -64,9 +101,14 @@ laying-spec =
     returns
     sub-section-at
     section-at-requires
-    shared-slice-read-last
-    cast-last
-    add-last
-    add-if2
+    add-end
     returns-2
-    returns-3)
+    shared-slice-read-if3
+    cast-if3
+    add-if3
+    returns-3
+    count-requires
+    returns-4
+    section-at-requires-2
+    returns-5
+    returns-6)
