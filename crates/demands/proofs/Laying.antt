@@ -39,29 +39,23 @@ module _ (s : List ℕ) (p : ℕ) (good : planFault s ≡ 0) (laid : laidAt s p 
   place-back : nthS (sections s) (be 0 2 t′) .offset + be 2 8 t′ ≡ p
   place-back = ap₂ (λ i d. nthS (sections s) i .offset + d) section-back distance-back ∙ theory.laid-at s p good laid .1
 
--- a window that is looked up without fault, for which the theory says section and distance
-told : (s w : List ℕ) {i d : ℕ} (t t′ : List ℕ) (r : ℕ) → planFault s ≡ 0 → (lookupFault s w ≡ 0) × (layingOf s w ≡ suc i) × (distanceOf s w ≡ d)
-    → answerSize ≤ length t → LookupSays s w t t′ r → Section-told i d t t′ r
-told s w t t′ r good (fine, laying, distance) room e =
+-- section and distance are told, as the theory has them
+told : (s : List ℕ) (i d : ℕ) → planFault s ≡ 0
+    → let w = window (shades s) (marks s) (nthS (sections s) i .offset + d) in
+    (lookupFault s w ≡ 0) × (layingOf s w ≡ suc i) × (distanceOf s w ≡ d) → Section-told s i d
+told s i d good (fine, laying, distance) t t′ r room e =
+    let w = window (shades s) (marks s) (nthS (sections s) i .offset + d) in
     let p = placeOf (shades s) (marks s) w in
     let (number, tray) = into-fine (lookupFault s w) (answerAt s p) t fine room e in
     let there = theory.some-laid s p (λ z. omega (arith, laying)) in
-    record {
-      fine = number;
-      section = section-back s p good there t tray ∙ omega (arith, laying);
-      distance = distance-back s p good there t tray ∙ distance;
-      kept = ap (drop answerSize) tray;
-    }
+    (number, section-back s p good there t tray ∙ omega (arith, laying), distance-back s p good there t tray ∙ distance, ap (drop answerSize) tray)
 
-pub laid : (s : List ℕ) (i d : ℕ) (t t′ : List ℕ) (r : ℕ) → planFault s ≡ 0 → i < sectionCount s → d + marks s ≤ nthS (sections s) i .long
-    → answerSize ≤ length t → LookupSays s (window (shades s) (marks s) (nthS (sections s) i .offset + d)) t t′ r → Section-told i d t t′ r
-laid s i d t t′ r good h fits room e = told s (window (shades s) (marks s) (nthS (sections s) i .offset + d)) t t′ r good (theory.laid s i d good h fits) room e
+pub laid : (s : List ℕ) (i d : ℕ) → planFault s ≡ 0 → i < sectionCount s → d + marks s ≤ nthS (sections s) i .long → Section-told s i d
+laid s i d good h fits = told s i d good (theory.laid s i d good h fits)
 
-pub laid-across : (s : List ℕ) (i d : ℕ) (t t′ : List ℕ) (r : ℕ) → planFault s ≡ 0 → suc i < sectionCount s
-    → welded (nthS (sections s) i) (nthS (sections s) (suc i)) ≡ true → d < nthS (sections s) i .long
-    → answerSize ≤ length t → LookupSays s (window (shades s) (marks s) (nthS (sections s) i .offset + d)) t t′ r → Section-told i d t t′ r
-laid-across s i d t t′ r good h weld begins room e =
-    told s (window (shades s) (marks s) (nthS (sections s) i .offset + d)) t t′ r good (theory.laid-across s i d good h weld begins) room e
+pub laid-across : (s : List ℕ) (i d : ℕ) → planFault s ≡ 0 → suc i < sectionCount s → welded (nthS (sections s) i) (nthS (sections s) (suc i)) ≡ true
+    → d < nthS (sections s) i .long → Section-told s i d
+laid-across s i d good h weld begins = told s i d good (theory.laid-across s i d good h weld begins)
 
 pub laid-only : (s w t t′ : List ℕ) (r : ℕ) → LookupSays s w t t′ r → r ≡ 0
     → let i = be 0 2 t′ in

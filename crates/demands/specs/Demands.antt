@@ -34,12 +34,11 @@ pub record Turn-told (w : List ℕ) (v : ℕ) : Type 0 where
   pub lowest : (i : ℕ) → upTo (turned v w) (turned i w) ≡ true
   pub first : (j : ℕ) → j < v → turned j w ≢ turned v w
 
--- the section and the distance that look_up tells, and no byte after them
-pub record Section-told (i d : ℕ) (t t′ : List ℕ) (r : ℕ) : Type 0 where
-  pub fine : r ≡ 0
-  pub section : be 0 2 t′ ≡ i
-  pub distance : be 2 8 t′ ≡ d
-  pub kept : drop answerSize t′ ≡ drop answerSize t
+-- look_up on the window at distance d in section i writes that section and that distance, and no byte after them
+abbrev pub Section-told : List ℕ → ℕ → ℕ → Type 0
+Section-told s i d =
+    (t t′ : List ℕ) (r : ℕ) → answerSize ≤ length t → LookupSays s (window (shades s) (marks s) (nthS (sections s) i .offset + d)) t t′ r
+    → (r ≡ 0) × (be 0 2 t′ ≡ i) × (be 2 8 t′ ≡ d) × (drop answerSize t′ ≡ drop answerSize t)
 
 pub record Demands : Type 0 where
   pub theorems : Theorems
@@ -112,14 +111,11 @@ pub record Demands : Type 0 where
       → StartSays k n p r → Followed Says (r .cursor) ways qs d → WhereSays d v
       → (r .number ≡ 0) × (fields (λ q. q .number) qs ≡ replicate (length qs) 0) × (fields (λ q. q .mark) qs ≡ pathLetters (k ^ n) (strip k n) ways p)
       × (fields (λ q. q .passed) qs ≡ pathPassed k n ways p) × (v .number ≡ 0) × (v .value ≡ pathEnd (k ^ n) ways p)
-  -- Plans: look_up on the window at a distance in a section of an accepted plan writes that section and that distance
-  pub laid : (s : List ℕ) (i d : ℕ) (t t′ : List ℕ) (r : ℕ) → planFault s ≡ 0 → i < sectionCount s → d + marks s ≤ nthS (sections s) i .long
-      → answerSize ≤ length t → LookupSays s (window (shades s) (marks s) (nthS (sections s) i .offset + d)) t t′ r
-      → Section-told i d t t′ r
-  -- and so it does from each place of a section whose joint to the next is welded, across the joint too
-  pub laid-across : (s : List ℕ) (i d : ℕ) (t t′ : List ℕ) (r : ℕ) → planFault s ≡ 0 → suc i < sectionCount s
-      → welded (nthS (sections s) i) (nthS (sections s) (suc i)) ≡ true → d < nthS (sections s) i .long
-      → answerSize ≤ length t → LookupSays s (window (shades s) (marks s) (nthS (sections s) i .offset + d)) t t′ r → Section-told i d t t′ r
+  -- Plans: look_up tells section and distance of each window that is read wholly inside a section of an accepted plan
+  pub laid : (s : List ℕ) (i d : ℕ) → planFault s ≡ 0 → i < sectionCount s → d + marks s ≤ nthS (sections s) i .long → Section-told s i d
+  -- and, where the joint to the next section is welded, of each window that begins in the section, across the joint too
+  pub laid-across : (s : List ℕ) (i d : ℕ) → planFault s ≡ 0 → suc i < sectionCount s → welded (nthS (sections s) i) (nthS (sections s) (suc i)) ≡ true
+      → d < nthS (sections s) i .long → Section-told s i d
   -- what look_up answers is true: the window is read at that distance in that section, inside it or on over a welded joint into the next
   pub laid-only : (s w t t′ : List ℕ) (r : ℕ) → LookupSays s w t t′ r → r ≡ 0
       → let i = be 0 2 t′ in

@@ -7,9 +7,8 @@ use Prim.Native.Nat.{ℕ, suc, _+_, _-_, _^_, _≤_, _<_}
 use native.Mathlib.Omega.{arith}
 use lib.ListN.{length}
 use Rattle.theory.specs.Plans.{Section, endOf, shades, marks, sectionCount, sections, straightFrom, planFault, layingAt, nthS}
-use Rattle.theory.specs.Theorems.{Lies}
+use Rattle.theory.specs.Theorems.{Across, Lies}
 use Rattle.theory.proofs.Base.{less, equal, more, cmp}
-use Rattle.theory.proofs.Rings.{admitted-range}
 use Rattle.theory.proofs.Laying.{plan-good, sections-count, straight-at, straight-apart, weld-meets, meets-weld, lies-inside, lies-across, lies-laying, unlaid}
 use Rattle.shape.proofs.Limits.{limits}
 use Rattle.sections.proofs.Whole.{accepted-whole}
@@ -22,9 +21,6 @@ module _ (s : List ℕ) (good : planFault s ≡ 0) where
 
   straight : straightFrom (marks s) top 0 (sections s) ≡ true
   straight = plan-good s good .2
-
-  wide : 1 ≤ marks s
-  wide = admitted-range (shades s) (marks s) (plan-good s good .1) .1
 
   apart : (i j : ℕ) → i < j → j < length (sections s) → endOf (nthS (sections s) i) ≤ nthS (sections s) j .offset
   apart i j h l = straight-apart (marks s) top 0 (sections s) i j straight h l
@@ -79,7 +75,9 @@ module _ (s : List ℕ) (good : planFault s ≡ 0) where
       ends : endOf (nthS (sections s) i) ≡ end
 
     pub look : {r : ℕ} {x : Section} → Begun p (sections s) r → 1 ≤ r → x ≡ nthS (sections s) (r - 1) → Looked r (endOf x)
-    look {r} begun some is = let all : r ≡ suc (r - 1) = omega arith in record { i = r - 1; all = all; begun = subst (Begun p (sections s)) all begun; ends = ap endOf (sym is) }
+    look {r} begun some is =
+        let all : r ≡ suc (r - 1) = omega arith in
+        record { i = r - 1; all = all; begun = subst (Begun p (sections s)) all begun; ends = ap endOf (sym is) }
 
     module _ {r end : ℕ} (l : Looked r end) where
       abbrev i : ℕ
@@ -111,8 +109,11 @@ module _ (s : List ℕ) (good : planFault s ≡ 0) where
       whole h = lies-laying s good (lies-inside s good starts (omega (arith, l .begun .within)) (omega (arith, l .ends))) ∙ sym (l .all)
 
       -- the window goes on behind it, and there is no next section; or the next, y, begins just there, or does not
+      stops : end < p + marks s → ¬ Across (sections s) i (p + marks s) → layingAt s p ≡ 0
+      stops longer not-across = none (λ lies. ⊎-elim (λ e. omega (arith, e, l .ends)) not-across (lies .ends))
+
       pub last : end < p + marks s → r ≡ sectionCount s → layingAt s p ≡ 0
-      last longer h = none (λ lies. ⊎-elim (λ e. omega (arith, e, l .ends)) (λ a. omega (arith, a .0, h, l .all, sections-count s)) (lies .ends))
+      last longer h = stops longer (λ a. omega (arith, a .0, h, l .all, sections-count s))
 
       module _ {y : Section} (is : y ≡ nthS (sections s) r) where
         next : y ≡ nthS (sections s) (suc i)
@@ -124,4 +125,4 @@ module _ (s : List ℕ) (good : planFault s ≡ 0) where
             lies-laying s good (lies-across s good starts (omega (arith, h, l .all, l .begun .within, sections-count s)) weld (omega (arith, l .ends))) ∙ sym (l .all)
 
         pub parted : end < p + marks s → ¬ (y .offset ≡ end) → layingAt s p ≡ 0
-        parted longer h = none (λ lies. ⊎-elim (λ e. omega (arith, e, l .ends)) (λ a. h (ap (λ x. x .offset) next ∙ sym (weld-meets (nthS (sections s) i) (nthS (sections s) (suc i)) (a .1)) ∙ l .ends)) (lies .ends))
+        parted longer h = stops longer (λ a. h (ap (λ x. x .offset) next ∙ sym (weld-meets (nthS (sections s) i) (nthS (sections s) (suc i)) (a .1)) ∙ l .ends))

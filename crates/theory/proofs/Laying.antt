@@ -68,10 +68,10 @@ straight-apart n top end (x ∷ xs) (suc i) (suc j) h l b =
 
 -- welded sections meet
 pub weld-meets : (x y : Section) → welded x y ≡ true → endOf x ≡ y .offset
-weld-meets x y t = eqb-true _ _ t
+weld-meets x y t = eqb-true (endOf x) (y .offset) t
 
 pub meets-weld : (x y : Section) → endOf x ≡ y .offset → welded x y ≡ true
-meets-weld x y e = eq-eqb _ _ e
+meets-weld x y e = eq-eqb (endOf x) (y .offset) e
 
 -- how far a section is read: to its own end, or over a welded joint
 reach-to : (x : Section) (xs : List Section) (q : ℕ) → (q ≤ endOf x) ⊎ Across (x ∷ xs) 0 q → q ≤ reach x xs
