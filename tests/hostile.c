@@ -1,5 +1,5 @@
-/* Calls the library with junk: every set of refusals that can apply together, every section looked for and every pair of a plan broken, then
-   inputs drawn with a fixed seed (argument: how many).
+/* Calls the library with junk: every set of refusals that can apply together, every section looked for and every pair of a plan broken, every
+   joint on small strips, then inputs drawn with a fixed seed. An argument says how many of these, for a shorter run without the small strips.
    Checked: the number given back, that a refusal leaves every byte as it was, that an answer leaves the bytes after it, and answers by
    round trips. Exits 1 if anything is wrong, a number is never given or a call never answers. */
 #include "../include/strip.h"
@@ -124,16 +124,27 @@ static unsigned plan_faults(const uint8_t *plan, size_t length) {
     return 0;
 }
 
-/* the section and the distance at which a window is laid, as the answer's 10 bytes; 0 if it is not */
+static int holds_mark(const uint8_t *section, uint64_t place) {
+    uint64_t offset = number_in(section, 8);
+    return place >= offset && place - offset < number_in(section + 8, 8);
+}
+
+/* the section that holds the mark at a place, or NULL */
+static const uint8_t *holder(const struct ask *a, uint64_t place) {
+    for (const uint8_t *section = a->plan + 4; section < a->plan + a->plan_length; section += 16)
+        if (holds_mark(section, place)) return section;
+    return NULL;
+}
+
+/* the section and the distance at which a window is laid, as the answer's 10 bytes; 0 if it is not: each of its marks must be held by a section */
 static int laid(const struct ask *a, uint64_t place, uint8_t *answer) {
-    for (size_t at = 4, section = 0; at < a->plan_length; at += 16, section++) {
-        uint64_t offset = number_in(a->plan + at, 8), end = offset + number_in(a->plan + at + 8, 8), n = a->plan[1];
-        if (place < offset || place + n > end) continue;
-        put_number(answer, section, 2);
-        put_number(answer + 2, place - offset, 8);
-        return 1;
-    }
-    return 0;
+    const uint8_t *first = holder(a, place), *section = first;
+    for (uint64_t i = 0; i < a->plan[1] && section != NULL; i++)
+        if (!holds_mark(section, place + i)) section = holder(a, place + i);
+    if (section == NULL) return 0;
+    put_number(answer, (uint64_t)(first - a->plan - 4) / 16, 2);
+    put_number(answer + 2, place - number_in(first, 8), 8);
+    return 1;
 }
 
 static uint64_t place_by_library(uint64_t k, uint64_t n, const uint8_t *window) {
@@ -432,7 +443,7 @@ static void all_plan_sets(void) {
 
 /* Every section of a plan looked for, and every pair of numbers broken alone */
 
-static const uint64_t SPREAD_STRIPS[][2] = {{2, 16}, {36, 11}};
+static const uint64_t SPREAD_STRIPS[][2] = {{2, 16}, {36, 11}, {2, 60}};
 static const uint64_t COUNTS[] = {0, 1, 2, 3, MOST_SECTIONS};
 enum { EARLY, NARROW, BEYOND, LONG, WRAPPING, WAYS };
 
@@ -450,24 +461,26 @@ static size_t spread(uint64_t k, uint64_t n, uint64_t m, uint8_t *plan) {
     return 4 + 16 * (size_t)m;
 }
 
+/* the window at a place, with the mark in its middle unread if the call takes that */
 static void look_at(struct ask *a, uint64_t place) {
     static uint8_t window[LONGEST];
     uint64_t k = a->plan[0], n = a->plan[1], places;
     admitted(k, n, &places);
     print_marks(k, n, place % places, n, window, n);
+    if (a->call == SMUDGED) window[n / 2] = UNREAD;
     a->input = window;
     a->input_length = (size_t)n;
     a->kind = (a->kind + 1) % KINDS;
     try_call(a);
 }
 
-/* at a section's first and last mark, at its last window and at the one behind it, and in the gap, if there is one */
-static void each_section(struct ask *a) {
+/* at a section's first and last mark, at its last window, at one that ends behind it by a mark or by half of them, and behind it */
+static void each_section(struct ask *a, size_t stride) {
     look_at(a, 0);
     look_at(a, UINT64_MAX);
-    for (size_t at = 4; at < a->plan_length; at += 16) {
+    for (size_t at = 4; at < a->plan_length; at += 16 * stride) {
         uint64_t start = number_in(a->plan + at, 8), end = start + number_in(a->plan + at + 8, 8);
-        uint64_t spots[] = {start, end - 1, end - a->plan[1], end - a->plan[1] + 1, end};
+        uint64_t spots[] = {start, end - 1, end - a->plan[1], end - a->plan[1] + 1, end - a->plan[1] / 2, end};
         for (size_t i = 0; i < sizeof spots / sizeof *spots; i++) look_at(a, spots[i]);
     }
 }
@@ -504,8 +517,49 @@ static void all_sections(void) {
         for (size_t m = 0; m < sizeof COUNTS / sizeof *COUNTS; m++) {
             struct ask a = {.call = LOOK, .plan = plan, .tray_length = LAYING};
             a.plan_length = spread(SPREAD_STRIPS[s][0], SPREAD_STRIPS[s][1], COUNTS[m], plan);
-            each_section(&a);
+            each_section(&a, 1);
             each_pair(&a, plan);
+            a.call = SMUDGED;
+            each_section(&a, 7); /* slow, so only some, with gaps of every kind */
+        }
+}
+
+/* Every plan of up to two sections, and every one whose sections, up to six, meet from the first place to the last, on small strips: all windows */
+
+enum { SMALL = 16, MOST_TILES = 6 };
+
+static void look_everywhere(struct ask *a, uint64_t places) {
+    for (uint64_t place = 0; place < places; place++)
+        for (a->call = LOOK; a->call <= SMUDGED; a->call++) look_at(a, place);
+}
+
+/* looks, then lays one more section from a place on; if sections are to meet, just there, and it looks when they reach the last place */
+static void lay_on(struct ask *a, uint8_t *plan, uint64_t from, uint64_t places, uint64_t most, int meet) {
+    uint64_t m = number_in(plan + 2, 2), last = meet ? from : places;
+    a->plan_length = 4 + 16 * (size_t)m;
+    if (!meet || from == places) look_everywhere(a, places);
+    if (m == most) return;
+    for (uint64_t offset = from; offset <= last; offset++)
+        for (uint64_t size = plan[1]; size <= places - offset; size++) {
+            put_number(plan + 2, m + 1, 2);
+            put_number(plan + 4 + 16 * m, offset, 8);
+            put_number(plan + 12 + 16 * m, size, 8);
+            lay_on(a, plan, offset + size, places, most, meet);
+        }
+    put_number(plan + 2, m, 2);
+}
+
+static void all_joints(void) {
+    static uint8_t plan[MOST_PLAN];
+    struct ask a = {.plan = plan, .tray_length = LAYING};
+    uint64_t places;
+    for (uint64_t n = 1; n <= LONGEST; n++)
+        for (uint64_t k = 2; k <= SHADES && admitted(k, n, &places) && places <= SMALL; k++) {
+            memset(plan, 0, sizeof plan);
+            plan[0] = (uint8_t)k;
+            plan[1] = (uint8_t)n;
+            lay_on(&a, plan, 0, places, 2, 0);
+            lay_on(&a, plan, 0, places, MOST_TILES, 1);
         }
 }
 
@@ -656,6 +710,7 @@ int main(int count, char **arguments) {
     all_sets();
     all_plan_sets();
     all_sections();
+    if (count == 1) all_joints();
     for (unsigned long i = 0; i < inputs; i++) draw_call();
     for (unsigned i = 0; i < BITS; i++) total += refused[i];
     for (int call = 0; call < CALLS; call++) answered += round_trips[call];

@@ -11,7 +11,7 @@ Bytes are written in hexadecimal, no bytes as "-". An optional argument is the m
 """
 import random
 import sys
-from itertools import product
+from itertools import combinations, product
 
 import model
 from model import LARGE, UNREAD, admitted, letters, plan_bytes, small_strips, strip_of
@@ -96,7 +96,8 @@ def cases_of_the_rules():
 
 
 def plans_of_the_rules():
-    for sections in ([(12, 4)], [(13, 4)], [(0, 3)], [(0, 8), (7, 5)], [], [(0, 6), (8, 8)], [(0, 8), (8, 8)], [(0, 16)]):
+    for sections in ([(12, 4)], [(13, 4)], [(0, 3)], [(0, 8), (7, 5)], [], [(0, 6), (8, 8)], [(0, 8), (8, 8)], [(0, 7), (8, 8)],
+                     [(0, 4), (4, 4), (8, 4)], [(0, 16)]):
         for window in model.words(2, 4):
             look(plan_bytes(2, 4, sections), window)
 
@@ -315,6 +316,49 @@ def small_smudged(chance, many):
                 smudged(plan, window)
 
 
+def two_sections(n, places):
+    for first, second in combinations(((start, length) for start in range(places) for length in range(n, places - start + 1)), 2):
+        if sum(first) <= second[0]:
+            yield [first, second]
+
+
+def tiles(n, start, end, most):
+    """The ways to lay up to so many sections that meet from a place to another."""
+    if start == end:
+        yield []
+    for length in range(n, end - start + 1 if most else 0):
+        for others in tiles(n, start + length, end, most - 1):
+            yield [(start, length)] + others
+
+
+def joints(chance, most):
+    """Every plan of two sections, and every one whose sections, up to six, meet from the strip's first place to its last; all windows, and one smudged.
+    Where n is 1 no window crosses a joint, so few shades are enough."""
+    for k, n in small_strips(most):
+        strip, places = strip_of(k, n), k**n
+        if n == 1 and k > 6:
+            continue
+        for sections in list(two_sections(n, places)) + list(tiles(n, 0, places, 6)):
+            plan = plan_bytes(k, n, sections)
+            for at in range(places):
+                look(plan, strip.marks(at, n))
+            smudged(plan, smudge(strip.marks(chance.randrange(places), n), 1, chance))
+
+
+def large_joints(chance):
+    """500 sections welded in pairs: at each section a window that ends behind it, read in full and smudged."""
+    for k, n in ((2, 60), (36, 11)):
+        strip = strip_of(k, n)
+        room = strip.places // 500
+        sections = [(i * room, room - i % 2 * chance.randint(1, 2 * n)) for i in range(500)]
+        plan = plan_bytes(k, n, sections)
+        for i, (offset, length) in enumerate(sections):
+            window = strip.marks((offset + length - chance.randint(1, n - 1)) % strip.places, n)
+            look(plan, window)
+            if i % 10 < 2:
+                smudged(plan, smudge(window, 1, chance))
+
+
 def smudge(window, count, chance):
     window = list(window)
     for i in chance.sample(range(len(window)), min(count, len(window))):
@@ -411,6 +455,8 @@ def main():
     large_smudged(chance, 6)
     few_sections()
     broken_among_500(chance)
+    joints(chance, 16)
+    large_joints(chance)
 
 
 if __name__ == "__main__":
