@@ -25,13 +25,14 @@ static uint64_t draw(void) {
 }
 
 static void draw_inputs(int call) {
-    uint64_t limit = call == WORD ? lyndon_count(k, n) : places_of(k, n);
+    uint64_t limit = call == WORD ? lyndon_count(k, n) : places_of(k, n), room = places_of(k, n) / SECTIONS;
     for (int i = 0; i < INPUTS; i++) {
         numbers[i] = draw() % limit + (call == WORD);
         for (uint64_t j = 0; j < n; j++) words[i][j] = (uint8_t)(draw() % k);
+        /* half of the windows looked up cross the welded joint of a section and the next */
+        if (call == LOOK && i % 2 != 0) print_marks(k, n, (draw() % SECTIONS | 1) * room - 1 - draw() % (n - 1), n, words[i], n);
         for (int unread = 0; call == SMUDGED && unread < STRIP_MOST_UNREAD; unread++) words[i][draw() % n] = STRIP_UNREAD;
     }
-    uint64_t room = places_of(k, n) / SECTIONS;
     plan[0] = (uint8_t)k;
     plan[1] = (uint8_t)n;
     put_number(plan + 2, SECTIONS, 2);
