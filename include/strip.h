@@ -31,8 +31,8 @@ extern "C" {
 #endif
 
 /* The major number rises with a change that a host must react to, the minor number with a new call. */
-#define STRIP_VERSION_MAJOR 1
-#define STRIP_VERSION_MINOR 2
+#define STRIP_VERSION_MAJOR 2
+#define STRIP_VERSION_MINOR 0
 
 /* Limits: k from 2, n from 1, and k^n at most 2^60; sections of a plan, and its bytes. */
 #define STRIP_MOST_SHADES 36
@@ -56,7 +56,7 @@ enum {
     STRIP_TRAY_TOO_SMALL = 6, /* the tray is shorter than the answer */
     STRIP_TORN_PLAN = 7,      /* under 4 bytes, more than 500 sections, or a wrong total */
     STRIP_CROOKED_PLAN = 8,   /* a section is too short, overlaps the one ahead or ends behind the strip */
-    STRIP_NOT_LAID = 9,       /* no section of the plan holds the window, or one that agrees with it */
+    STRIP_NOT_LAID = 9,       /* neither in a section nor across a welded joint; nor is a window that agrees */
     STRIP_TOO_SMUDGED = 11    /* three or more marks were not read */
 };
 
@@ -107,8 +107,10 @@ uint8_t print_marks(uint64_t k, uint64_t n, uint64_t place, uint64_t marks, uint
    from 0 in 2 and the distance in 8. Refusals: 7, 1, 8, 2, 3, 9, 6.
 
    A plan is one byte k, one byte n, 2 bytes with the number m of sections (0 to 500), then m pairs of offset and length, 8 bytes each:
-   4 + 16 m bytes. Each length is at least n, each section ends at or before k^n, and none starts before the one ahead ends. A window
-   belongs to a section only if all its n marks do; one across the joint of two sections is not laid.
+   4 + 16 m bytes. Each length is at least n, each section ends at or before k^n, and none starts before the one ahead ends. A window is
+   laid in the section that holds its first mark, if its last mark is there too or, over a welded joint, in the next section. A joint is
+   welded if the next section begins at the place where this one ends; then each place of this one has its window, and distance plus n may
+   come out above the section's length. A gap of one place is not read over, nor is the strip's end.
 
    Example. On the strip of 2 shades and windows of 4, 0000100110101111, with the sections (0, 6) and (8, 8):
 
@@ -118,7 +120,8 @@ uint8_t print_marks(uint64_t k, uint64_t n, uint64_t place, uint64_t marks, uint
        uint8_t tray[STRIP_LAYING];
        look_up(plan, sizeof plan, window, sizeof window, tray, sizeof tray);
 
-   returns 0 and leaves 0 1, 0 0 0 0 0 0 0 2 in the tray: the window is read at place 10, in section 1, 2 marks from its start. */
+   returns 0 and leaves 0 1, 0 0 0 0 0 0 0 2 in the tray: the window is read at place 10, in section 1, 2 marks from its start.
+   With the sections (0, 8) and (8, 8) the window 1101 is read at place 7, across the joint: section 0, distance 7. */
 uint8_t look_up(const uint8_t *plan, size_t plan_len, const uint8_t *window, size_t window_len, uint8_t *tray, size_t tray_len);
 
 /* The same for a window in which up to two marks could not be read: byte STRIP_UNREAD, which is no bad mark here and is one in every other call.

@@ -1,4 +1,4 @@
--- The lookups down to the bytes: a window inside a section is answered so, and what is answered is so; the same of a smudged window.
+-- The lookups down to the bytes: a window inside a section or across a welded joint is answered so, and what is answered is so; the same of a smudged window.
 use mathlib.Core.Path.{_≡_, refl, sym, _∙_, ap, ap₂, subst, subst₂}
 use mathlib.Core.Bool.{true, not}
 use mathlib.Core.List.{List, []}

@@ -1,4 +1,4 @@
-// Laying plans: is one accepted, and which of its sections holds the window at a place?
+// Laying plans: is one accepted, and which of its sections is the window at a place laid in?
 ghost use mathlib.Core.Path.{_≡_};
 ghost use mathlib.Core.Bool.{false};
 ghost use Prim.Native.Nat.{_^_, _<_};

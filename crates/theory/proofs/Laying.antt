@@ -1,4 +1,4 @@
--- Laying plans: a window read wholly inside a section is found in that section, at its distance from the section's start.
+-- Laying plans: a window read inside a section, or from it over a welded joint into the next, is found in that section, at its distance from the section's start.
 -- The place of a window is the place that it was read from (One-place).
 use mathlib.Core.Path.{_≡_, refl, sym, _∙_, ap, ap₂, subst}
 use mathlib.Core.Bool.{Bool, true, false, not, false≢true}
