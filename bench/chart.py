@@ -23,7 +23,7 @@ Why the library is slower than the best C, as far as parts of a call were measur
   n^2 / 2 letters, 0.7 to 1.5 us on (2, 60), where `best.c`, in one pass with two candidates, takes 0.1 to 0.2 us.
 - Ranks and places: the library fills a table of 61 times 61 numbers, as the rules ask, where `best.c` keeps two rows. Clearing the table is a twentieth of a rank on (2, 60) and
   a third to a half on (36, 11); the divisions that look for divisors, timed alone, come to a fifth to a quarter on (2, 60). The rest was not taken apart.
-- Lookup: the 500 sections, of which the check reads each once and the search ten by bisection, are a sixth of it on (2, 60), a third on (4, 30) and a half on (36, 11). The rest is the place.
+- Lookup: the 500 sections, of which the check reads each once and the search some ten by bisection, are a sixth of it on (2, 60), a third on (4, 30) and a half on (36, 11). The rest is the place.
 - Words and marks fill the table again for each letter tried, where `best.c` divides past the middle of the word. How much of the time that is was not measured.
 - Printing: by instructions, not by time, 2^20 marks on (2, 60) are one half steps from word to word, over a third the search for the first word, and a twentieth copying.
 
