@@ -14,8 +14,8 @@ use borrow.Author.Tests.{leb-true, le-leb, ltb-true, lt-ltb, le-ltb, eq-eqb, ne-
 use Rattle.theory.specs.Words.{firstOf, when, marksOk}
 use Rattle.theory.specs.Strips.{admitted, strip, window, placeOf}
 use Rattle.theory.specs.Plans.{Section, endOf, shades, marks, wordFault, sectionCount, sectionsFrom, sections, torn, straightFrom, planFault, welded, reach, holdsAt, layingFrom, nthS, layingAt, laidAt, layingOf, distanceOf, lookupFault}
-use Rattle.theory.specs.Theorems.{Laid, Laid-across, Across, Lies, Laid-where, Laid-only, Laid-at}
-use Rattle.theory.proofs.Base.{test, and-l, and-r, and-in, and-false}
+use Rattle.theory.specs.Theorems.{Laid, Laid-across, Across, Lies, Laid-where, Laid-each, Laid-only, Laid-at}
+use Rattle.theory.proofs.Base.{less, equal, more, cmp, upto, over, split, test, and-l, and-r, and-in, and-false}
 use Rattle.theory.proofs.Reading.{letters-length}
 use Rattle.theory.proofs.Rings.{admitted-range, one-place, window-marks}
 use Rattle.theory.proofs.Faults.{first-none, when-none}
@@ -259,3 +259,59 @@ laid-at s p good laid =
     let ends : p + marks s ≤ shades s ^ marks s =
     ⊎-elim (λ h. omega (arith, h, section-straight s good i (l .listed) .ends)) (λ h. omega (arith, h .2, section-straight s good (suc i) (h .0) .ends)) (l .ends) in
     (omega (arith, l .listed, sections-count s), omega (arith, l .starts), ends)
+
+-- letter by letter
+module _ (s : List ℕ) (p : ℕ) (good : planFault s ≡ 0) where
+  abbrev x : ℕ → Section
+  x i = nthS (sections s) i
+
+  -- the section that the place q is in
+  abbrev Held : ℕ → Type 0
+  Held q = (i : ℕ) × (i < sectionCount s) × (x i .offset ≤ q) × (q < endOf (x i))
+
+  -- a window that lies in section i: each of its letters stands there, or in the next section, which meets it
+  lies-each : {i : ℕ} → Lies (marks s) (sections s) i p → (q : ℕ) → p ≤ q → q < p + marks s → Held q
+  lies-each {i} l q from to =
+      elim (split (endOf (x i)) q) [
+        | over h ↦ (i, omega (arith, l .listed, sections-count s), omega (arith, l .starts), h)
+        | upto h ↦ ⊎-elim (λ e. absurd (omega arith)) (λ (c, weld, on). (suc i, omega (arith, sections-count s), omega (arith, weld-meets (x i) (x (suc i)) weld), omega arith)) (l .ends)
+      ]
+
+  -- each letter stands in a section, the first in section i: the one behind its end can only be in the next, which so begins there
+  module _ (each : (q : ℕ) → p ≤ q → q < p + marks s → Held q) (i : ℕ) (b : i < length (sections s)) (starts : x i .offset ≤ p) (begins : p < endOf (x i)) where
+    apart : (j m : ℕ) → j < m → m < length (sections s) → endOf (x j) ≤ x m .offset
+    apart j m h c = straight-apart (marks s) (shades s ^ marks s) 0 (sections s) j m (straight s good) h c
+
+    next : (j : ℕ) → j < length (sections s) → x j .offset ≤ endOf (x i) → endOf (x i) < endOf (x j) → j ≡ suc i
+    next j c from to =
+        elim (cmp j i) [
+          | less h ↦ absurd (omega (arith, apart j i h b))
+          | equal h ↦ absurd (omega (arith, ap (λ m. endOf (x m)) h))
+          | more h ↦ elim (cmp j (suc i)) [ less g ↦ absurd (omega arith) | equal g ↦ g | more g ↦ absurd (between g) ]
+        ]
+      where
+        -- a section between the two has a letter
+        between : suc i < j → ⊥
+        between g =
+            let one = admitted-range (shades s) (marks s) (plan-good s good .1) .1 in
+            omega (arith, apart i (suc i) (omega arith) (omega arith), section-straight s good (suc i) (omega arith) .wide, apart (suc i) j g c)
+
+    each-lies : Lies (marks s) (sections s) i p
+    each-lies = elim (split (p + marks s) (endOf (x i))) [ upto h ↦ lies-inside s good starts b h | over h ↦ on (each (endOf (x i)) (omega arith) h) ]
+      where
+        on : Held (endOf (x i)) → Lies (marks s) (sections s) i p
+        on (j, c, from, to) =
+            let listed : j < length (sections s) = omega (arith, sections-count s) in
+            let is = next j listed from to in
+            let meets : endOf (x i) ≡ x (suc i) .offset = omega (arith, from, ap (λ m. x m .offset) is, apart i j (omega (arith, is)) listed) in
+            lies-across s good starts (omega (arith, is, listed)) (meets-weld (x i) (x (suc i)) meets) begins
+
+pub laid-each : Laid-each
+laid-each s p good = (λ laid. lies-each s p good (lies-there s p good (laid-some s p laid)), out)
+  where
+    out : ((q : ℕ) → p ≤ q → q < p + marks s → Held s p good q) → laidAt s p ≡ true
+    out each =
+        let one = admitted-range (shades s) (marks s) (plan-good s good .1) .1 in
+        let (i, b, starts, begins) = each p (omega arith) (omega arith) in
+        let laying = lies-laying s good (each-lies s p good each i (omega (arith, sections-count s)) starts begins) in
+        some-laid s p (λ z. omega (arith, z, laying))

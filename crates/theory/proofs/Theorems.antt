@@ -10,7 +10,7 @@ use Rattle.theory.proofs.Rings.{rings, one-place}
 use Rattle.theory.proofs.Cursors.{ring-cursors}
 use Rattle.theory.proofs.Back.{both-ways}
 use Rattle.theory.proofs.Strips.{cursors}
-use Rattle.theory.proofs.Laying.{laid, laid-across, laid-where, laid-only, laid-at}
+use Rattle.theory.proofs.Laying.{laid, laid-across, laid-where, laid-each, laid-only, laid-at}
 use Rattle.theory.proofs.Erasures.{smudged}
 use Rattle.theory.proofs.BySum.{summed}
 use Rattle.theory.proofs.Floors.{floors}
@@ -35,6 +35,7 @@ theorems =
       laid = laid;
       laid-across = laid-across;
       laid-where = laid-where;
+      laid-each = laid-each;
       laid-only = laid-only;
       laid-at = laid-at;
       smudged = smudged;

@@ -196,7 +196,7 @@ Laid =
     → let w = window (shades s) (marks s) (nthS (sections s) i .offset + d) in
     (lookupFault s w ≡ 0) × (layingOf s w ≡ suc i) × (distanceOf s w ≡ d)
 
--- The same over a welded joint, from each place of the section ahead of it. Where the window ends is not asked: never behind the next section, which is no shorter.
+-- The same over a welded joint, from each place of the section ahead of it. Where the window ends is not asked: never behind the next section, which has n letters at least.
 abbrev pub Laid-across : Type 0
 Laid-across =
     (s : List ℕ) (i d : ℕ) → planFault s ≡ 0 → suc i < sectionCount s → welded (nthS (sections s) i) (nthS (sections s) (suc i)) ≡ true
@@ -218,6 +218,13 @@ pub record Lies (n : ℕ) (xs : List Section) (i p : ℕ) : Type 0 where
 -- The section that the window at a place is laid in is the one where it lies, and there is no other; so it is laid in none just where it lies in none.
 abbrev pub Laid-where : Type 0
 Laid-where = (s : List ℕ) (i p : ℕ) → planFault s ≡ 0 → (layingAt s p ≡ suc i) ↔ Lies (marks s) (sections s) i p
+
+-- Letter by letter, whatever joints there are: a window is laid just when each of its letters stands in a section. So none is read over a gap.
+abbrev pub Laid-each : Type 0
+Laid-each =
+    (s : List ℕ) (p : ℕ) → planFault s ≡ 0
+    → (laidAt s p ≡ true)
+    ↔ ((q : ℕ) → p ≤ q → q < p + marks s → (i : ℕ) × (i < sectionCount s) × (nthS (sections s) i .offset ≤ q) × (q < endOf (nthS (sections s) i)))
 
 -- What the lookup answers is true: the window lies in that section, at that distance from its start.
 abbrev pub Laid-only : Type 0
@@ -334,6 +341,7 @@ pub record Theorems : Type 0 where
   pub laid : Laid
   pub laid-across : Laid-across
   pub laid-where : Laid-where
+  pub laid-each : Laid-each
   pub laid-only : Laid-only
   pub laid-at : Laid-at
   pub smudged : Smudged
