@@ -346,7 +346,7 @@ def joints(chance, most):
 
 
 def large_joints(chance):
-    """500 sections welded in pairs: at each section a window that ends behind it, read in full and smudged."""
+    """500 sections welded in pairs: at each section a window that ends behind it, some of them smudged too."""
     for k, n in ((2, 60), (36, 11)):
         strip = strip_of(k, n)
         room = strip.places // 500

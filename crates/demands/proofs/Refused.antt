@@ -11,7 +11,7 @@ use lib.ListN.{length}
 use borrow.Author.Tests.{ne-eqb}
 use Rattle.theory.specs.Words.{firstOf, when, keep, marksOk, howMany}
 use Rattle.theory.specs.Strips.{admitted, window, placeOf, cursorOk}
-use Rattle.theory.specs.Plans.{shades, marks, sections, planFault, wordFault, torn, straightFrom, layingAt, laidAt, layingOf, lookupFault}
+use Rattle.theory.specs.Plans.{shades, marks, sections, planFault, wordFault, torn, straightFrom, laidAt, layingOf, lookupFault}
 use Rattle.theory.specs.Theorems.{Lies}
 use Rattle.theory.specs.Erasures.{unread, read, agrees, fitting, smudgedFault}
 use Rattle.theory.proofs.Base.{test}
@@ -88,7 +88,7 @@ not-laid s w plan word = (into, out)
 
     into : layingOf s w ≡ 0 → (i p : ℕ) → Lies (marks s) (sections s) i p → window (shades s) (marks s) p ≢ w
     into z i p lies e =
-        let laying : layingOf s w ≡ suc i = ap (layingOf s) (sym e) ∙ ap (layingAt s) (theory.lies-place s good lies) ∙ theory.lies-laying s good lies in
+        let laying : layingOf s w ≡ suc i = ap (layingOf s) (sym e) ∙ theory.lies-looked s good lies in
         omega (arith, z, laying)
 
     out : ((i p : ℕ) → Lies (marks s) (sections s) i p → window (shades s) (marks s) p ≢ w) → layingOf s w ≡ 0

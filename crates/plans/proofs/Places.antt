@@ -1,40 +1,27 @@
 -- The section of a place: sections are sorted, so bisection finds how many begin at the place or before it; only the last of these can hold the window.
-use mathlib.Core.Path.{_≡_, refl, sym, _∙_, ap, subst}
-use mathlib.Core.Bool.{true}
+use mathlib.Core.Path.{_≡_, sym, _∙_, ap, subst}
 use mathlib.Core.List.{List}
 use mathlib.Core.Logic.{_⊎_, ⊎-elim}
 use Prim.Native.Nat.{ℕ, suc, _+_, _-_, _^_, _≤_, _<_}
 use native.Mathlib.Omega.{arith}
 use lib.ListN.{length}
-use Rattle.theory.specs.Plans.{Section, endOf, shades, marks, sectionCount, sections, straightFrom, planFault, layingAt, nthS}
+use Rattle.theory.specs.Plans.{Section, endOf, shades, marks, sectionCount, sections, planFault, layingAt, nthS}
 use Rattle.theory.specs.Theorems.{Across, Lies}
 use Rattle.theory.proofs.Base.{less, equal, more, cmp}
-use Rattle.theory.proofs.Laying.{plan-good, sections-count, straight-at, straight-apart, weld-meets, meets-weld, lies-inside, lies-across, lies-laying, unlaid}
-use Rattle.shape.proofs.Limits.{limits}
+use Rattle.theory.proofs.Laying.{plan-good, sections-count, section-straight, section-apart, weld-meets, meets-weld, lies-inside, lies-across, lies-laying, unlaid}
+use Rattle.shape.proofs.Limits.{admitted-limits}
 use Rattle.sections.proofs.Whole.{accepted-whole}
 use Rattle.plans.specs.Begun.{Between, Begun}
 
 -- sections of an accepted plan
 module _ (s : List ℕ) (good : planFault s ≡ 0) where
-  abbrev top : ℕ
-  top = shades s ^ marks s
-
-  straight : straightFrom (marks s) top 0 (sections s) ≡ true
-  straight = plan-good s good .2
-
-  apart : (i j : ℕ) → i < j → j < length (sections s) → endOf (nthS (sections s) i) ≤ nthS (sections s) j .offset
-  apart i j h l = straight-apart (marks s) top 0 (sections s) i j straight h l
-
   sorted : (i j : ℕ) → i ≤ j → j < length (sections s) → nthS (sections s) i .offset ≤ nthS (sections s) j .offset
   sorted i j h l =
-      elim (cmp i j) [ less g ↦ omega (arith, apart i j g l) | equal g ↦ omega (arith, ap (λ m. nthS (sections s) m .offset) g) | more g ↦ absurd (omega arith) ]
+      elim (cmp i j) [ less g ↦ omega (arith, section-apart s good i j g l) | equal g ↦ omega (arith, ap (λ m. nthS (sections s) m .offset) g) | more g ↦ absurd (omega arith) ]
 
   -- they end within the strip
   section-ends : (i : ℕ) → i < length (sections s) → endOf (nthS (sections s) i) ≤ 2 ^ 60
-  section-ends i h =
-      let x = straight-at (marks s) top 0 (sections s) i straight h in
-      let l = limits {s = record { k = shades s; n = marks s; size = top }} (record { admit = plan-good s good .1; size = refl }) in
-      omega (arith, l .range, x .ends)
+  section-ends i h = omega (arith, admitted-limits (shades s) (marks s) (plan-good s good .1) .range, section-straight s good i h .ends)
 
   -- what bisection knows of a place p
   module _ (p : ℕ) where
@@ -90,7 +77,7 @@ module _ (s : List ℕ) (good : planFault s ≡ 0) where
       only : {j : ℕ} → Lies (marks s) (sections s) j p → j ≡ i
       only {j} lies =
           elim (cmp j i) [
-            | less a ↦ absurd (omega (arith, lies .begins, apart j i a (omega (arith, l .begun .within)), starts))
+            | less a ↦ absurd (omega (arith, lies .begins, section-apart s good j i a (omega (arith, l .begun .within)), starts))
             | equal a ↦ a
             | more a ↦ absurd (omega (arith, lies .starts, l .begun .behind j (omega arith) (lies .listed)))
           ]

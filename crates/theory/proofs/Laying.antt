@@ -11,7 +11,7 @@ use native.Mathlib.Decide.{ℕ-discrete}
 use lib.Dec.{eqb, ltb, leb}
 use lib.ListN.{length, drop}
 use borrow.Author.Tests.{leb-true, le-leb, ltb-true, lt-ltb, le-ltb, eq-eqb, ne-eqb, eqb-true, eqb-false, not-true, not-false}
-use Rattle.theory.specs.Words.{firstOf, when, marksOk}
+use Rattle.theory.specs.Words.{firstOf, when}
 use Rattle.theory.specs.Strips.{admitted, strip, window, placeOf}
 use Rattle.theory.specs.Plans.{Section, endOf, shades, marks, wordFault, sectionCount, sectionsFrom, sections, torn, straightFrom, planFault, welded, reach, holdsAt, layingFrom, nthS, layingAt, laidAt, layingOf, distanceOf, lookupFault}
 use Rattle.theory.specs.Theorems.{Laid, Laid-across, Across, Lies, Laid-where, Laid-each, Laid-only, Laid-at}
@@ -58,7 +58,7 @@ straight-at n top end (x ∷ xs) (suc i) h b =
     record { starts = omega arith; wide = r .wide; ends = r .ends }
 
 -- each section ends before any later one begins, or where it begins
-pub straight-apart : (n top end : ℕ) (xs : List Section) (i j : ℕ) → straightFrom n top end xs ≡ true → i < j → j < length xs
+straight-apart : (n top end : ℕ) (xs : List Section) (i j : ℕ) → straightFrom n top end xs ≡ true → i < j → j < length xs
     → endOf (nthS xs i) ≤ nthS xs j .offset
 straight-apart n top end [] i j h l b = absurd (omega arith)
 straight-apart n top end (x ∷ xs) i zero h l b = absurd (omega arith)
@@ -142,77 +142,111 @@ laying-found j p n (x ∷ xs) h = elim (test (holdsAt p n x xs)) [ inl t ↦ fir
         let on : layingFrom j p n (x ∷ xs) ≡ layingFrom (suc j) p n xs = rw (t, layingFrom) refl in
         record { index = suc (f .index); is = on ∙ f .is ∙ ap suc (suc-add j (f .index) ∙ sym (add-suc j (f .index))); lies = rest-lies (f .lies) }
 
--- the lookup's answers from the place and the section
-module _ (s w : List ℕ) (i d p : ℕ) (good : planFault s ≡ 0) (long : length w ≡ marks s) (ok : marksOk (shades s) w ≡ true)
-    (place : placeOf (shades s) (marks s) w ≡ p) (laying : layingFrom 0 p (marks s) (sections s) ≡ suc i) (at : nthS (sections s) i .offset + d ≡ p) where
-  answer : layingOf s w ≡ suc i
-  answer = rw place laying
-
-  distance : distanceOf s w ≡ d
-  distance =
-      let e : layingOf s w - 1 ≡ i = omega (arith, answer) in
-      ap₂ (λ a j. a - nthS (sections s) j .offset) place e ∙ omega arith
-
-  no-fault : lookupFault s w ≡ 0
-  no-fault = none _ _ _ _ good (eq-eqb _ _ long) ok (ne-eqb (layingOf s w) 0 (λ e. omega (arith, answer)))
-    where
-      none : (a : ℕ) (b c e : Bool) → a ≡ 0 → b ≡ true → c ≡ true → e ≡ false
-          → firstOf a (firstOf (firstOf (when (not b) 2) (when (not c) 3)) (when e 9)) ≡ 0
-      none a b c e x y z t = rw (x, y, z, t)
-
--- the windows of an accepted plan
+-- the sections of an accepted plan, and where a window lies in them
 module _ (s : List ℕ) (good : planFault s ≡ 0) where
-  abbrev top : ℕ
-  top = shades s ^ marks s
+  abbrev x : ℕ → Section
+  x i = nthS (sections s) i
 
-  straight : straightFrom (marks s) top 0 (sections s) ≡ true
-  straight = plan-good s good .2
+  range : (2 ≤ shades s) × (1 ≤ marks s)
+  range = admitted-range (shades s) (marks s) (plan-good s good .1)
 
-  section-straight : (i : ℕ) → i < length (sections s) → Straight (marks s) top 0 (nthS (sections s) i)
-  section-straight i h = straight-at (marks s) top 0 (sections s) i straight h
+  pub section-straight : (i : ℕ) → i < length (sections s) → Straight (marks s) (shades s ^ marks s) 0 (x i)
+  section-straight i h = straight-at (marks s) (shades s ^ marks s) 0 (sections s) i (plan-good s good .2) h
+
+  pub section-apart : (i j : ℕ) → i < j → j < length (sections s) → endOf (x i) ≤ x j .offset
+  section-apart i j h c = straight-apart (marks s) (shades s ^ marks s) 0 (sections s) i j (plan-good s good .2) h c
 
   -- n letters lie in the section that holds the first, if it holds the last; over a welded joint always, since the next section is no shorter
-  module _ {i p : ℕ} (starts : nthS (sections s) i .offset ≤ p) where
-    pub lies-inside : i < length (sections s) → p + marks s ≤ endOf (nthS (sections s) i) → Lies (marks s) (sections s) i p
-    lies-inside h ends =
-        let one = admitted-range (shades s) (marks s) (plan-good s good .1) .1 in
-        record { listed = h; starts = starts; begins = omega arith; ends = inl ends }
+  module _ {i p : ℕ} (starts : x i .offset ≤ p) where
+    pub lies-inside : i < length (sections s) → p + marks s ≤ endOf (x i) → Lies (marks s) (sections s) i p
+    lies-inside h ends = record { listed = h; starts = starts; begins = omega (arith, range .1); ends = inl ends }
 
-    pub lies-across : suc i < length (sections s) → welded (nthS (sections s) i) (nthS (sections s) (suc i)) ≡ true → p < endOf (nthS (sections s) i)
-        → Lies (marks s) (sections s) i p
+    pub lies-across : suc i < length (sections s) → welded (x i) (x (suc i)) ≡ true → p < endOf (x i) → Lies (marks s) (sections s) i p
     lies-across h weld begins =
         let wide = section-straight (suc i) h .wide in
-        let meets = weld-meets (nthS (sections s) i) (nthS (sections s) (suc i)) weld in
+        let meets = weld-meets (x i) (x (suc i)) weld in
         record { listed = omega arith; starts = starts; begins = begins; ends = inr (h, weld, omega arith) }
 
   pub lies-laying : {i p : ℕ} → Lies (marks s) (sections s) i p → layingAt s p ≡ suc i
-  lies-laying {i} {p} l = laying-at (marks s) top 0 (sections s) i 0 p straight l ∙ ap suc (zero-add i)
+  lies-laying {i} {p} l = laying-at (marks s) (shades s ^ marks s) 0 (sections s) i 0 p (plan-good s good .2) l ∙ ap suc (zero-add i)
 
-  pub laying-lies : {i p : ℕ} → layingAt s p ≡ suc i → Lies (marks s) (sections s) i p
+  laying-lies : {i p : ℕ} → layingAt s p ≡ suc i → Lies (marks s) (sections s) i p
   laying-lies {i} {p} e =
       let f = laying-found 0 p (marks s) (sections s) (λ z. omega (arith, e, z)) in
       subst (λ j. Lies (marks s) (sections s) j p) (omega (arith, e, f .is)) (f .lies)
 
-  -- a window that lies in a section is read where it lies, and nowhere else
-  pub lies-place : {i p : ℕ} → Lies (marks s) (sections s) i p → placeOf (shades s) (marks s) (window (shades s) (marks s) p) ≡ p
-  lies-place {i} {p} lies =
-      let (two, one) = admitted-range (shades s) (marks s) (plan-good s good .1) in
-      one-place .only (shades s) (marks s) p (window (shades s) (marks s) p) two one (omega (arith, lies .begins, section-straight i (lies .listed) .ends)) refl
+  -- a window that lies in a section is read there and nowhere else, so it is the one that is looked up
+  lies-place : {i p : ℕ} → Lies (marks s) (sections s) i p → placeOf (shades s) (marks s) (window (shades s) (marks s) p) ≡ p
+  lies-place {i} {p} l =
+      one-place .only (shades s) (marks s) p (window (shades s) (marks s) p) (range .0) (range .1) (omega (arith, l .begins, section-straight i (l .listed) .ends)) refl
+
+  pub lies-looked : {i p : ℕ} → Lies (marks s) (sections s) i p → layingOf s (window (shades s) (marks s) p) ≡ suc i
+  lies-looked l = ap (layingAt s) (lies-place l) ∙ lies-laying l
 
   -- at distance d in section i
-  module _ (i d : ℕ) (lies : Lies (marks s) (sections s) i (nthS (sections s) i .offset + d)) where
-    abbrev seen : List ℕ
-    seen = window (shades s) (marks s) (nthS (sections s) i .offset + d)
+  module _ (i d : ℕ) (lies : Lies (marks s) (sections s) i (x i .offset + d)) where
+    abbrev w : List ℕ
+    w = window (shades s) (marks s) (x i .offset + d)
 
-    in-section : (lookupFault s seen ≡ 0) × (layingOf s seen ≡ suc i) × (distanceOf s seen ≡ d)
-    in-section =
-        let p = nthS (sections s) i .offset + d in
-        let (two, one) = admitted-range (shades s) (marks s) (plan-good s good .1) in
-        let place = lies-place lies in
-        let laying = lies-laying lies in
-        let long = letters-length (shades s ^ marks s) (strip (shades s) (marks s)) p (marks s) in
-        let ok = window-marks (shades s) (marks s) p two one in
-        (no-fault s seen i d p good long ok place laying refl, answer s seen i d p good long ok place laying refl, distance s seen i d p good long ok place laying refl)
+    distance : distanceOf s w ≡ d
+    distance =
+        let e : layingOf s w - 1 ≡ i = omega (arith, lies-looked lies) in
+        ap₂ (λ a j. a - x j .offset) (lies-place lies) e ∙ omega arith
+
+    no-fault : lookupFault s w ≡ 0
+    no-fault =
+        let long = letters-length (shades s ^ marks s) (strip (shades s) (marks s)) (x i .offset + d) (marks s) in
+        let ok = window-marks (shades s) (marks s) (x i .offset + d) (range .0) (range .1) in
+        none _ _ _ _ good (eq-eqb _ _ long) ok (ne-eqb (layingOf s w) 0 (λ z. omega (arith, z, lies-looked lies)))
+      where
+        none : (a : ℕ) (b c e : Bool) → a ≡ 0 → b ≡ true → c ≡ true → e ≡ false
+            → firstOf a (firstOf (firstOf (when (not b) 2) (when (not c) 3)) (when e 9)) ≡ 0
+        none a b c e x y z t = rw (x, y, z, t)
+
+    in-section : (lookupFault s w ≡ 0) × (layingOf s w ≡ suc i) × (distanceOf s w ≡ d)
+    in-section = (no-fault, lies-looked lies, distance)
+
+  -- letter by letter: a section that the place q is in
+  abbrev Held : ℕ → Type 0
+  Held q = (i : ℕ) × (i < sectionCount s) × (x i .offset ≤ q) × (q < endOf (x i))
+
+  -- a window that lies in section i: each of its letters stands there, or in the next section, which meets it
+  lies-each : {i p : ℕ} → Lies (marks s) (sections s) i p → (q : ℕ) → p ≤ q → q < p + marks s → Held q
+  lies-each {i} {p} l q from to =
+      elim (split (endOf (x i)) q) [
+        | over h ↦ (i, omega (arith, l .listed, sections-count s), omega (arith, l .starts), h)
+        | upto h ↦ ⊎-elim (λ e. absurd (omega arith)) (behind h) (l .ends)
+      ]
+    where
+      behind : endOf (x i) ≤ q → Across (sections s) i (p + marks s) → Held q
+      behind h (c, weld, on) = (suc i, omega (arith, sections-count s), omega (arith, weld-meets (x i) (x (suc i)) weld), omega arith)
+
+  -- the section that the place behind section i is in can only be the next, since a section between the two has a letter
+  next-holds : (i j : ℕ) → i < length (sections s) → j < length (sections s) → x j .offset ≤ endOf (x i) → endOf (x i) < endOf (x j) → j ≡ suc i
+  next-holds i j b c from to =
+      elim (cmp j i) [
+        | less h ↦ absurd (omega (arith, section-apart j i h b))
+        | equal h ↦ absurd (omega (arith, ap (λ m. endOf (x m)) h))
+        | more h ↦ elim (cmp j (suc i)) [ less g ↦ absurd (omega arith) | equal g ↦ g | more g ↦ absurd (between g) ]
+      ]
+    where
+      between : suc i < j → ⊥
+      between g =
+          omega (arith, range .1, section-apart i (suc i) (omega arith) (omega arith), section-straight (suc i) (omega arith) .wide, section-apart (suc i) j g c)
+
+  -- so if each letter stands in a section, the section of the first has the last too, or meets the next one
+  each-lies : (p : ℕ) → ((q : ℕ) → p ≤ q → q < p + marks s → Held q) → (i : ℕ) × Lies (marks s) (sections s) i p
+  each-lies p each = let (i, b, starts, begins) = each p (omega arith) (omega (arith, range .1)) in (i, from i (omega (arith, sections-count s)) starts begins)
+    where
+      from : (i : ℕ) → i < length (sections s) → x i .offset ≤ p → p < endOf (x i) → Lies (marks s) (sections s) i p
+      from i b starts begins = elim (split (p + marks s) (endOf (x i))) [ upto h ↦ lies-inside starts b h | over h ↦ on (each (endOf (x i)) (omega arith) h) ]
+        where
+          on : Held (endOf (x i)) → Lies (marks s) (sections s) i p
+          on (j, c, early, late) =
+              let listed : j < length (sections s) = omega (arith, sections-count s) in
+              let is = next-holds i j b listed early late in
+              let meets : endOf (x i) ≡ x (suc i) .offset = omega (arith, ap (λ m. x m .offset) is, section-apart i j (omega (arith, is)) listed) in
+              lies-across starts (omega (arith, is, listed)) (meets-weld (x i) (x (suc i)) meets) begins
 
 pub laid-where : Laid-where
 laid-where s i p good = (laying-lies s good, lies-laying s good)
@@ -260,58 +294,6 @@ laid-at s p good laid =
     ⊎-elim (λ h. omega (arith, h, section-straight s good i (l .listed) .ends)) (λ h. omega (arith, h .2, section-straight s good (suc i) (h .0) .ends)) (l .ends) in
     (omega (arith, l .listed, sections-count s), omega (arith, l .starts), ends)
 
--- letter by letter
-module _ (s : List ℕ) (p : ℕ) (good : planFault s ≡ 0) where
-  abbrev x : ℕ → Section
-  x i = nthS (sections s) i
-
-  -- the section that the place q is in
-  abbrev Held : ℕ → Type 0
-  Held q = (i : ℕ) × (i < sectionCount s) × (x i .offset ≤ q) × (q < endOf (x i))
-
-  -- a window that lies in section i: each of its letters stands there, or in the next section, which meets it
-  lies-each : {i : ℕ} → Lies (marks s) (sections s) i p → (q : ℕ) → p ≤ q → q < p + marks s → Held q
-  lies-each {i} l q from to =
-      elim (split (endOf (x i)) q) [
-        | over h ↦ (i, omega (arith, l .listed, sections-count s), omega (arith, l .starts), h)
-        | upto h ↦ ⊎-elim (λ e. absurd (omega arith)) (λ (c, weld, on). (suc i, omega (arith, sections-count s), omega (arith, weld-meets (x i) (x (suc i)) weld), omega arith)) (l .ends)
-      ]
-
-  -- each letter stands in a section, the first in section i: the one behind its end can only be in the next, which so begins there
-  module _ (each : (q : ℕ) → p ≤ q → q < p + marks s → Held q) (i : ℕ) (b : i < length (sections s)) (starts : x i .offset ≤ p) (begins : p < endOf (x i)) where
-    apart : (j m : ℕ) → j < m → m < length (sections s) → endOf (x j) ≤ x m .offset
-    apart j m h c = straight-apart (marks s) (shades s ^ marks s) 0 (sections s) j m (straight s good) h c
-
-    next : (j : ℕ) → j < length (sections s) → x j .offset ≤ endOf (x i) → endOf (x i) < endOf (x j) → j ≡ suc i
-    next j c from to =
-        elim (cmp j i) [
-          | less h ↦ absurd (omega (arith, apart j i h b))
-          | equal h ↦ absurd (omega (arith, ap (λ m. endOf (x m)) h))
-          | more h ↦ elim (cmp j (suc i)) [ less g ↦ absurd (omega arith) | equal g ↦ g | more g ↦ absurd (between g) ]
-        ]
-      where
-        -- a section between the two has a letter
-        between : suc i < j → ⊥
-        between g =
-            let one = admitted-range (shades s) (marks s) (plan-good s good .1) .1 in
-            omega (arith, apart i (suc i) (omega arith) (omega arith), section-straight s good (suc i) (omega arith) .wide, apart (suc i) j g c)
-
-    each-lies : Lies (marks s) (sections s) i p
-    each-lies = elim (split (p + marks s) (endOf (x i))) [ upto h ↦ lies-inside s good starts b h | over h ↦ on (each (endOf (x i)) (omega arith) h) ]
-      where
-        on : Held (endOf (x i)) → Lies (marks s) (sections s) i p
-        on (j, c, from, to) =
-            let listed : j < length (sections s) = omega (arith, sections-count s) in
-            let is = next j listed from to in
-            let meets : endOf (x i) ≡ x (suc i) .offset = omega (arith, from, ap (λ m. x m .offset) is, apart i j (omega (arith, is)) listed) in
-            lies-across s good starts (omega (arith, is, listed)) (meets-weld (x i) (x (suc i)) meets) begins
-
 pub laid-each : Laid-each
-laid-each s p good = (λ laid. lies-each s p good (lies-there s p good (laid-some s p laid)), out)
-  where
-    out : ((q : ℕ) → p ≤ q → q < p + marks s → Held s p good q) → laidAt s p ≡ true
-    out each =
-        let one = admitted-range (shades s) (marks s) (plan-good s good .1) .1 in
-        let (i, b, starts, begins) = each p (omega arith) (omega arith) in
-        let laying = lies-laying s good (each-lies s p good each i (omega (arith, sections-count s)) starts begins) in
-        some-laid s p (λ z. omega (arith, z, laying))
+laid-each s p good =
+    (λ laid. lies-each s good (lies-there s p good (laid-some s p laid)), λ each. some-laid s p (λ z. let l = each-lies s good p each .1 in omega (arith, z, lies-laying s good l)))
