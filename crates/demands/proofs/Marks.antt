@@ -10,7 +10,7 @@ use Rattle.theory.specs.Words.{marksOk}
 use Rattle.theory.specs.Strips.{admitted, strip, markAt, marksFrom, window, placeOf}
 use Rattle.theory.specs.Plans.{be}
 use Rattle.theory.proofs.Reading.{letters-length, letters-at}
-use Rattle.theory.proofs.Rings.{one-place, window-marks, mark-below}
+use Rattle.theory.proofs.Rings.{one-place, strip-marks, mark-below}
 use Rattle.shape.proofs.Limits.{admitted-limits}
 use Rattle.buffers.specs.Buffers.{over}
 use Rattle.calls.specs.Refusals.{theWordFault, placeFault}
@@ -42,7 +42,7 @@ place-back k n p t t′ r a h x f =
     let l = admitted-limits k n a in
     let w = window k n p in
     let long : length w ≡ n = letters-length _ _ p n in
-    let letters = window-marks k n p (l .two) (l .some) in
+    let letters = strip-marks k n p n (l .two) (l .some) in
     let (number, _, _, one) = placed k n w t t′ r a long letters x f in
     (number, sym (one p h refl), ap (drop 8) (number-fine (theWordFault k n w) (placeOf k n w) t (word-faultless k n w a long letters) x f .1))
 

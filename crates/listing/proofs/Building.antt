@@ -7,10 +7,10 @@ use lib.ListN.{length, length-append}
 use Rattle.shape.specs.declared.Strip as DS
 use Rattle.shape.specs.Shapes.{Shaped}
 use Rattle.shape.proofs.Limits.{limits}
-use Rattle.texts.specs.Texts.{decimal, Adds}
+use Rattle.texts.specs.Texts.{decimal, fields, Adds}
 use Rattle.texts.proofs.Adding.{adds-none, adds-more}
 use Rattle.texts.proofs.Decimals.{decimal-fits}
-use Rattle.listing.specs.Listings.{line, fields, stripText, stripLine}
+use Rattle.listing.specs.Listings.{line, stripText, stripLine}
 
 -- a text of at most m bytes, added behind the first `at` bytes
 pub record Written (before : List ℕ) (at m : ℕ) (text after : List ℕ) (end : ℕ) : Type 0 where

@@ -12,12 +12,12 @@ use Rattle.theory.specs.Strips.{strip, marksFrom, window}
 use Rattle.theory.specs.Plans.{Section, noSection, nthS}
 use Rattle.theory.proofs.Letters.{marks-in, in-marks}
 use Rattle.theory.proofs.Reading.{letters-length}
-use Rattle.theory.proofs.Rings.{window-marks}
+use Rattle.theory.proofs.Rings.{strip-marks}
 use Rattle.shape.specs.declared.Strip as DS
 use Rattle.shape.specs.Shapes.{Shaped}
 use Rattle.shape.proofs.Limits.{limits}
-use Rattle.texts.specs.Texts.{decimal, glyphs, Adds}
-use Rattle.listing.specs.Listings.{line, most, fields, sectionLine, sectionLines}
+use Rattle.texts.specs.Texts.{decimal, glyphs, fields, Adds}
+use Rattle.listing.specs.Listings.{line, most, sectionLine, sectionLines}
 use Rattle.texts.proofs.Adding.{adds-as}
 use Rattle.texts.proofs.Digits.{glyphs-length}
 use Rattle.access.proofs.Reading.{room, in-room}
@@ -38,7 +38,7 @@ module _ {s : DS.Strip} (h : Shaped s) (x : Section) {v : List ℕ} (e : v ≡ m
   window-digits =
       let l = limits h in
       let w = window (s .k) (s .n) (x .offset) in
-      let ok = window-marks (s .k) (s .n) (x .offset) (l .two) (l .some) in
+      let ok = strip-marks (s .k) (s .n) (x .offset) (s .n) (l .two) (l .some) in
       rw first-window (in-marks 36 w (λ a i. omega (arith, l .most, marks-in (s .k) w ok a i)))
 
   pub section-text : (i : ℕ)

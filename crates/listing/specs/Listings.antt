@@ -5,12 +5,7 @@ use lib.Dec.{eqb}
 use Rattle.theory.specs.Words.{pick}
 use Rattle.theory.specs.Strips.{window}
 use Rattle.theory.specs.Plans.{Section, shades, marks, sections, planFault}
-use Rattle.texts.specs.Texts.{decimal, glyphs}
-
--- a line: its fields parted by a space (byte 32), then byte 10
-abbrev pub fields : List ℕ → List (List ℕ) → List ℕ
-fields x [] = x ++ (10 ∷ [])
-fields x (y ∷ ys) = x ++ (32 ∷ fields y ys)
+use Rattle.texts.specs.Texts.{decimal, glyphs, fields}
 
 -- the words strip and refused
 abbrev pub stripText : List ℕ

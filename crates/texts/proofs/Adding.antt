@@ -1,12 +1,13 @@
 -- Text added to a buffer: nothing, one more byte, the bytes of a list one by one, and text behind text.
 use mathlib.Core.Path.{_≡_, refl, sym, _∙_, ap, subst}
 use mathlib.Core.List.{List, [], _∷_, _++_, append-assoc, append-nil}
-use Prim.Native.Nat.{ℕ, _+_, _≤_, _<_}
+use Prim.Native.Nat.{ℕ, _+_, _-_, _≤_, _<_}
 use native.Mathlib.Omega.{arith}
 use native.Mathlib.Nat.{add-zero}
 use native.Mathlib.Numerals.{add-one}
 use lib.ListN.{length, getD, take, drop, set, length-append, length-take}
-use lib.Seq.{length-take-le, take-suc, take-suc-set, take-all, drop-drop, drop-set-lt}
+use lib.Seq.{length-take-le, take-at, take-suc, take-suc-set, take-all, drop-drop, drop-set-lt}
+use borrow.Rule.Slice.PartMut.{putMid, postOf, drop-put}
 use Rattle.texts.specs.Texts.{Adds}
 
 pub adds-none : (b : List ℕ) (at : ℕ) → Adds b at [] b at
@@ -42,6 +43,17 @@ adds-byte out m b h =
 pub adds-last : {b c : List ℕ} {at e : ℕ} {x text : List ℕ} (y : ℕ) → Adds b at x c e → e < length c → text ≡ x ++ (y ∷ [])
     → Adds b at text (set c e y) (e + 1)
 adds-last {c = c} {e = e} y p h t = adds-as (adds-more p (adds-byte c e y h)) (sym t)
+
+-- a text written over a part of the buffer from e up to f, which the borrow rules put back in its place
+pub adds-part : (c text : List ℕ) (e f : ℕ) → e ≤ f → f ≤ length c → length text ≡ f - e → Adds c e text (putMid e (f - e) c text) f
+adds-part c text e f h g l =
+    let front = length-take-le e c (omega arith) in
+    record {
+      ends = omega arith;
+      stands = ap (take f) (sym (append-assoc (take e c) text (postOf e (f - e) c)))
+          ∙ take-at (take e c ++ text) (postOf e (f - e) c) f (length-append (take e c) text ∙ omega (arith, front));
+      behind = drop-put e f c text h g l;
+    }
 
 -- a text byte by byte: none, one more, all
 pub adds-start : (b : List ℕ) (at : ℕ) (text : List ℕ) → Adds b at (take 0 text) b (at + 0)

@@ -1,2 +1,2 @@
--- Numbers and letters as text.
+-- Numbers, letters and lines as text.
 pub mod Texts

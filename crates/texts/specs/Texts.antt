@@ -1,4 +1,4 @@
--- Numbers and letters as text, in ASCII.
+-- Numbers, letters and lines as text, in ASCII.
 use mathlib.Core.Path.{_≡_}
 use mathlib.Core.Bool.{true, false}
 use mathlib.Core.List.{List, [], _∷_, _++_}
@@ -22,6 +22,11 @@ glyph a = pick (ltb a 10) (48 + a) (87 + a)
 abbrev pub glyphs : List ℕ → List ℕ
 glyphs [] = []
 glyphs (a ∷ w) = glyph a ∷ glyphs w
+
+-- a line: its fields parted by a space (byte 32), then byte 10
+abbrev pub fields : List ℕ → List (List ℕ) → List ℕ
+fields x [] = x ++ (10 ∷ [])
+fields x (y ∷ ys) = x ++ (32 ∷ fields y ys)
 
 -- text added behind the first `at` bytes of a buffer: where it ends, what stands there then, and that the bytes behind it are as they were
 pub record Adds (before : List ℕ) (at : ℕ) (text after : List ℕ) (end : ℕ) : Type 0 where

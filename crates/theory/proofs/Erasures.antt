@@ -19,7 +19,7 @@ use Rattle.theory.proofs.Base.{test, and-l, and-r, and-in, or-right, sa
 use Rattle.theory.proofs.Lists.{in-nil, in-some, no-members, keep-in, in-keep, keep-all, count-in, in-count}
 use Rattle.theory.proofs.Letters.{marks-cons, marks-head, marks-tail}
 use Rattle.theory.proofs.Reading.{letters-length}
-use Rattle.theory.proofs.Rings.{admitted-range, one-place, window-marks}
+use Rattle.theory.proofs.Rings.{admitted-range, one-place, strip-marks}
 use Rattle.theory.proofs.Faults.{first-none, first-then, when-none, word-fine}
 use Rattle.theory.proofs.Laying.{plan-good, lookup-good}
 
@@ -137,7 +137,7 @@ module _ (s w : List ℕ) (good : planFault s ≡ 0) where
   fits-fine {p} i few =
       let (_, _, agree) = fitting-in s w i in
       let long : length w ≡ marks s = agrees-length w _ agree ∙ letters-length (shades s ^ marks s) (strip (shades s) (marks s)) p (marks s) in
-      let letters = agrees-marks (shades s) w _ agree (window-marks (shades s) (marks s) p (range .0) (range .1)) in
+      let letters = agrees-marks (shades s) w _ agree (strip-marks (shades s) (marks s) p (marks s) (range .0) (range .1)) in
       rw (good, eq-eqb (length w) (marks s) long, le-ltb 2 _ few, letters, ne-eqb (length (fitting s w)) 0 (in-some i))
 
   -- no word that agrees is laid
@@ -152,7 +152,7 @@ module _ (s w : List ℕ) (good : planFault s ≡ 0) where
           let (inside, laid, agree) = fitting-in s w i in
           let v = window (shades s) (marks s) p in
           let place = one-place .only (shades s) (marks s) p v (range .0) (range .1) inside refl in
-          let other = none v (letters-length (shades s ^ marks s) (strip (shades s) (marks s)) p (marks s)) (window-marks (shades s) (marks s) p (range .0) (range .1)) agree in
+          let other = none v (letters-length (shades s ^ marks s) (strip (shades s) (marks s)) p (marks s)) (strip-marks (shades s) (marks s) p (marks s) (range .0) (range .1)) agree in
           false≢true (sym other ∙ ap (laidAt s) place ∙ laid)
 
   fits-none : fitting s w ≡ [] → None

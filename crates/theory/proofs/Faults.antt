@@ -1,6 +1,6 @@
 -- Faults, tested one after the other: which number comes first, and what is known where there is none.
 use mathlib.Core.Path.{_≡_, refl}
-use mathlib.Core.Bool.{Bool, true, false, not}
+use mathlib.Core.Bool.{Bool, true, false, not, _||_}
 use mathlib.Core.List.{List}
 use Prim.Native.Nat.{ℕ, zero, suc}
 use native.Mathlib.Omega.{arith}
@@ -30,6 +30,11 @@ first-zero (suc a) = refl
 pub first-then : (a : ℕ) {b c : ℕ} → (a ≡ 0 → b ≡ c) → firstOf a b ≡ firstOf a c
 first-then zero h = h refl
 first-then (suc a) h = refl
+
+-- two reasons for one number
+pub first-either : (s t : Bool) (f : ℕ) → firstOf (when s (suc f)) (when t (suc f)) ≡ when (s || t) (suc f)
+first-either true t f = refl
+first-either false t f = refl
 
 pub when-none : (t : Bool) (f : ℕ) → ¬ (f ≡ 0) → when t f ≡ 0 → t ≡ false
 when-none true f h e = absurd (h e)

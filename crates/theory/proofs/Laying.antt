@@ -17,7 +17,7 @@ use Rattle.theory.specs.Plans.{Section, endOf, shades, marks, wordFault,
 use Rattle.theory.specs.Theorems.{Laid, Laid-across, Across, Lies, Laid-where, Laid-each, Laid-only, Laid-at}
 use Rattle.theory.proofs.Base.{less, equal, more, cmp, upto, over, split, test, and-l, and-r, and-in, and-false}
 use Rattle.theory.proofs.Reading.{letters-length}
-use Rattle.theory.proofs.Rings.{admitted-range, one-place, window-marks}
+use Rattle.theory.proofs.Rings.{admitted-range, one-place, strip-marks}
 use Rattle.theory.proofs.Faults.{first-none, when-none}
 
 pub plan-good : (s : List ℕ) → planFault s ≡ 0
@@ -196,7 +196,7 @@ module _ (s : List ℕ) (good : planFault s ≡ 0) where
     no-fault : lookupFault s w ≡ 0
     no-fault =
         let long = letters-length (shades s ^ marks s) (strip (shades s) (marks s)) (x i .offset + d) (marks s) in
-        let ok = window-marks (shades s) (marks s) (x i .offset + d) (range .0) (range .1) in
+        let ok = strip-marks (shades s) (marks s) (x i .offset + d) (marks s) (range .0) (range .1) in
         none _ _ _ _ good (eq-eqb _ _ long) ok (ne-eqb (layingOf s w) 0 (λ z. omega (arith, z, lies-looked lies)))
       where
         none : (a : ℕ) (b c e : Bool) → a ≡ 0 → b ≡ true → c ≡ true → e ≡ false
