@@ -1,0 +1,3 @@
+-- Pictures as plain PBM files.
+pub mod Pictures
+pub mod Parts
