@@ -107,3 +107,7 @@ pub smudged-tray-number : (t s k b e c l d : Bool)
     ≡ given (rule 7 t ∷ rule 1 s ∷ rule 8 k ∷ rule 2 b ∷ rule 11 e ∷ rule 3 c ∷ rule 9 l ∷ rule 6 d ∷ [])
 smudged-tray-number t s k b e c l d =
     in-order (rule 7 t ∷ rule 1 s ∷ rule 8 k ∷ rule 2 b ∷ rule 11 e ∷ rule 3 c ∷ rule 9 l ∷ rule 6 d ∷ []) (simp (first-assoc, first-zero)) refl
+
+pub picture-tray-number : (a b c e d : Bool)
+    → firstOf (firstOf (when a 1) (firstOf (when b 12) (firstOf (when c 4) (when e 13)))) (when d 6) ≡ given (rule 1 a ∷ rule 12 b ∷ rule 4 c ∷ rule 13 e ∷ rule 6 d ∷ [])
+picture-tray-number a b c e d = in-order (rule 1 a ∷ rule 12 b ∷ rule 4 c ∷ rule 13 e ∷ rule 6 d ∷ []) (simp (first-assoc, first-zero)) refl

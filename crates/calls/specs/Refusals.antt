@@ -1,7 +1,7 @@
 -- The numbers that a call gives back. Each call takes the first that applies, in the one order (Order).
 -- The faults of a plan and of a lookup (7, 8, 9) stand in theory's Plans, those of a window with erasures (11) in its Erasures, since theorems speak of
 -- them; that of a cursor (10) in cursors, of whose bytes it speaks; 6 is part of the form of an answer (Answers).
-use mathlib.Core.Bool.{_||_}
+use mathlib.Core.Bool.{Bool, _&&_, _||_, not}
 use mathlib.Core.List.{List}
 use Prim.Native.Nat.{ℕ, _^_}
 use lib.Dec.{eqb, ltb, leb}
@@ -20,3 +20,10 @@ indexFault k n i = firstOf (stripFault k n) (when (eqb i 0 || ltb (howMany k n) 
 -- 1, then 4: the place is not below k^n
 abbrev pub placeFault : ℕ → ℕ → ℕ → ℕ
 placeFault k n p = firstOf (stripFault k n) (when (leb (k ^ n) p) 4)
+
+-- 1, then 12: k is not 2, then 4, then 13: the width is not from 1 to 60,000 or the height not from 1 to 64
+abbrev pub framed : ℕ → ℕ → Bool
+framed c h = leb 1 c && (leb c 60000 && (leb 1 h && leb h 64))
+
+abbrev pub pictureFault : ℕ → ℕ → ℕ → ℕ → ℕ → ℕ
+pictureFault k n p c h = firstOf (stripFault k n) (firstOf (when (not (eqb k 2)) 12) (firstOf (when (leb (k ^ n) p) 4) (when (not (framed c h)) 13)))

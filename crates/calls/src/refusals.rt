@@ -1,4 +1,4 @@
-// The table of refusals: the numbers that a call gives back instead of an answer. If several apply, the order is 7, 1, 8, 10, 2, 11, 3, 4, 5, 9, 6.
+// The table of refusals: the numbers that a call gives back instead of an answer. If several apply, the order is 7, 1, 12, 8, 10, 2, 11, 3, 4, 13, 5, 9, 6.
 pub const NO_SUCH_STRIP: u8 = 1;
 
 pub const WRONG_WINDOW: u8 = 2;
@@ -20,3 +20,7 @@ pub const NOT_LAID: u8 = 9;
 pub const LOST_CURSOR: u8 = 10;
 
 pub const TOO_SMUDGED: u8 = 11;
+
+pub const TWO_SHADES_ONLY: u8 = 12;
+
+pub const BAD_PICTURE: u8 = 13;

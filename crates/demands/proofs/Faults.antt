@@ -1,15 +1,16 @@
 -- Arguments without fault.
-use mathlib.Core.Path.{_≡_, refl}
-use mathlib.Core.Bool.{true}
+use mathlib.Core.Path.{_≡_, refl, _∙_, ap}
+use mathlib.Core.Bool.{true, not}
 use mathlib.Core.List.{List}
 use Prim.Native.Nat.{ℕ, _^_, _≤_, _<_}
 use lib.ListN.{length}
 use borrow.Author.Tests.{eq-eqb}
-use Rattle.theory.specs.Words.{howMany, marksOk}
+use Rattle.theory.specs.Words.{when, howMany, marksOk}
 use Rattle.theory.specs.Strips.{admitted, stripFault}
-use Rattle.calls.specs.Refusals.{theWordFault, indexFault, placeFault}
+use Rattle.calls.specs.Refusals.{theWordFault, indexFault, placeFault, pictureFault}
 use Rattle.calls.proofs.Checks.{place-fine}
 use Rattle.ranking.proofs.Indexes.{index-fine}
+use Rattle.pictures.proofs.Framing.{Frame, frame-out, left}
 
 pub strip-faultless : (k n : ℕ) → admitted k n ≡ true → stripFault k n ≡ 0
 strip-faultless k n a = rw a refl
@@ -22,3 +23,6 @@ index-faultless k n i a b c = rw (strip-faultless k n a) (index-fine k n i b c)
 
 pub place-faultless : (k n p : ℕ) → admitted k n ≡ true → p < k ^ n → placeFault k n p ≡ 0
 place-faultless k n p a h = rw (strip-faultless k n a) (place-fine k n p h)
+
+pub picture-faultless : (n p c h : ℕ) → admitted 2 n ≡ true → p < 2 ^ n → Frame c h → pictureFault 2 n p c h ≡ 0
+picture-faultless n p c h a l f = rw (strip-faultless 2 n a) (left 2 n p c h refl l ∙ ap (λ t. when (not t) 13) (frame-out c h f))

@@ -1,10 +1,12 @@
 -- The promise, whole.
 use Rattle.theory.proofs.Theorems.{theorems}
+use Rattle.pbm.proofs.Pictures.{pictures}
 use Rattle.demands.specs.Demands.{Demands}
 use Rattle.demands.proofs.Trays.{trays, no-value, no-value-beside, number-back}
 use Rattle.demands.proofs.Refused.{refusals}
 use Rattle.demands.proofs.Words.{lyndon, rotation, turn, root-told, count, ranked, unranked, word-back, rank-back}
 use Rattle.demands.proofs.Marks.{marked, placed, place-back, window-back, printed}
+use Rattle.demands.proofs.Pictures.{picture-back, picture-both, picture-by-rows}
 use Rattle.demands.proofs.Walking.{started, not-started, stands, step, not-stepped, undone, walk, both-ways}
 use Rattle.demands.proofs.Laying.{laid, laid-across, laid-only, smudged, smudged-only, smudged-plain}
 
@@ -30,6 +32,10 @@ demands = record {
   place-back = place-back;
   window-back = window-back;
   printed = printed;
+  pictures = pictures;
+  picture-back = λ n p c h t t′ u u′ r q a l some wide row high x y e f. picture-back n p c h a l some wide row high t t′ u u′ r q x y e f;
+  picture-both = λ n p c h s s′ t t′ r a l some wide row high x y e. picture-both n p c h a l some wide row high s s′ t t′ r x y e;
+  picture-by-rows = picture-by-rows;
   started = started;
   not-started = not-started;
   stands = stands;

@@ -4,6 +4,7 @@ pub mod Trays
 pub mod Refused
 pub mod Words
 pub mod Marks
+pub mod Pictures
 pub mod Walking
 pub mod Laying
 pub mod Kept

@@ -17,18 +17,19 @@ use Rattle.theory.specs.Erasures.{unread, read, agrees, fitting, smudgedFault}
 use Rattle.theory.proofs.Base.{test}
 use Rattle.theory.proofs.Lists.{in-some, no-members}
 use Rattle.theory.proofs.Rings.{one-place, admitted-range}
-use Rattle.theory.proofs.Faults.{word-fine}
+use Rattle.theory.proofs.Faults.{first-assoc, first-either, word-fine}
 use Rattle.theory.proofs.Laying as theory
 use Rattle.theory.proofs.Erasures.{fitting-in, in-fitting}
 use Rattle.calls.specs.Order.{given}
-use Rattle.calls.specs.Refusals.{theWordFault, indexFault, placeFault}
+use Rattle.calls.specs.Refusals.{theWordFault, indexFault, placeFault, framed, pictureFault}
 use Rattle.calls.proofs.Order.{given-none, given-first}
+use Rattle.pbm.specs.Pictures.{fileSize}
 use Rattle.lookups.specs.Says.{answerSize}
 use Rattle.cursors.specs.declared.Cursor as DC
 use Rattle.cursors.specs.Cursors.{cursorIn, tidy, cursorFault}
-use Rattle.demands.specs.Refused.{markRules, wordRules, placeRules, indexRules, cursorRules, planRules, layingRules, smudgedRules, trayRules, Refusals}
-use Rattle.demands.proofs.Trays.{answer-number, rotation-answers, turn-answers, rank-answers, word-answers, mark-answers, place-answers, print-answers, look-up-answers, smudged-answers}
-use Rattle.calls.proofs.Numbers.{strip-number, marks-number, word-number, place-number, cursor-number, plan-number, word-tray-number, place-tray-number, index-tray-number, laying-tray-number, smudged-tray-number}
+use Rattle.demands.specs.Refused.{markRules, wordRules, placeRules, indexRules, cursorRules, planRules, layingRules, smudgedRules, pictureRules, trayRules, traysRules, Refusals}
+use Rattle.demands.proofs.Trays.{answer-number, rotation-answers, turn-answers, rank-answers, word-answers, mark-answers, place-answers, print-answers, picture-answers, both-answers, look-up-answers, smudged-answers}
+use Rattle.calls.proofs.Numbers.{strip-number, marks-number, word-number, place-number, cursor-number, plan-number, word-tray-number, place-tray-number, index-tray-number, laying-tray-number, smudged-tray-number, picture-tray-number}
 
 -- the faults of each kind of argument, alone and with a tray of m bytes
 word-given : (k n : ℕ) (w : List ℕ) → theWordFault k n w ≡ given (wordRules k n w)
@@ -45,6 +46,14 @@ place-tray k n p t m = place-tray-number (not (admitted k n)) (leb (k ^ n) p) (l
 
 index-tray : (k n i : ℕ) (t : List ℕ) (m : ℕ) → firstOf (indexFault k n i) (when (ltb (length t) m) 6) ≡ given (indexRules k n i ++ trayRules t m)
 index-tray k n i t m = index-tray-number (not (admitted k n)) (eqb i 0 || ltb (howMany k n) i) (ltb (length t) m)
+
+picture-tray : (k n p c h : ℕ) (t : List ℕ) (m : ℕ) → firstOf (pictureFault k n p c h) (when (ltb (length t) m) 6) ≡ given (pictureRules k n p c h ++ trayRules t m)
+picture-tray k n p c h t m = picture-tray-number (not (admitted k n)) (not (eqb k 2)) (leb (k ^ n) p) (not (framed c h)) (ltb (length t) m)
+
+picture-trays : (k n p c h : ℕ) (s t : List ℕ) (m : ℕ) → firstOf (firstOf (pictureFault k n p c h) (when (ltb (length s) 8) 6)) (when (ltb (length t) m) 6) ≡ given (pictureRules k n p c h ++ traysRules s 8 t m)
+picture-trays k n p c h s t m =
+    first-assoc (pictureFault k n p c h) (when (ltb (length s) 8) 6) (when (ltb (length t) m) 6) ∙ ap (firstOf (pictureFault k n p c h)) (first-either (ltb (length s) 8) (ltb (length t) m) 5)
+    ∙ picture-tray-number (not (admitted k n)) (not (eqb k 2)) (leb (k ^ n) p) (not (framed c h)) (ltb (length s) 8 || ltb (length t) m)
 
 cursor-given : (c : DC.Cursor) → cursorFault c ≡ given (cursorRules c)
 cursor-given c = cursor-number (not (admitted (c .k) (c .n))) (not (tidy c && cursorOk (cursorIn c)))
@@ -116,6 +125,8 @@ refusals = record {
   mark-at = λ k n p t t′ r e. answer-number (mark-answers k n p t t′ r e) ∙ place-tray k n p t 8;
   place-of = λ k n w t t′ r e. answer-number (place-answers k n w t t′ r e) ∙ word-tray k n w t 8;
   print-marks = λ k n p c t t′ r e. answer-number (print-answers k n p c t t′ r e) ∙ place-tray k n p t c;
+  print-picture = λ k n p c h t t′ r e. answer-number (picture-answers k n p c h t t′ r e) ∙ picture-tray k n p c h t (fileSize c h);
+  picture-of = λ k n p c h s s′ t t′ r e. answer-number (both-answers k n p c h s s′ t t′ r e) ∙ picture-trays k n p c h s t (fileSize c h);
   check-plan = λ s r e. e ∙ plan-given s;
   look-up = λ s w t t′ r e. answer-number (look-up-answers s w t t′ r e) ∙ laying-tray s w t answerSize;
   look-up-smudged = λ s w t t′ r e. answer-number (smudged-answers s w t t′ r e) ∙ smudged-tray s w t answerSize;

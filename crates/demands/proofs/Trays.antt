@@ -17,7 +17,7 @@ use Rattle.theory.specs.Erasures.{smudgedFault}
 use Rattle.theory.proofs.Base.{test}
 use Rattle.theory.proofs.Necklaces.{smallest-length}
 use Rattle.theory.proofs.Reading.{letters-length}
-use Rattle.theory.proofs.Faults.{first-none, word-fine}
+use Rattle.theory.proofs.Faults.{first-none, when-none, word-fine}
 use Rattle.shape.proofs.Limits.{admitted-limits}
 use Rattle.buffers.specs.Buffers.{over}
 use Rattle.numbers.specs.Numbers.{putBe}
@@ -25,12 +25,16 @@ use Rattle.buffers.proofs.Bytes.{over-length}
 use Rattle.numbers.proofs.Numbers.{put-read}
 use Rattle.calls.specs.declared.Value as DV
 use Rattle.calls.specs.Answers.{Into, IntoValue, Number, ValueIs}
-use Rattle.calls.specs.Refusals.{theWordFault, indexFault, placeFault}
-use Rattle.calls.proofs.Answers.{into-given}
+use Rattle.calls.specs.Refusals.{theWordFault, indexFault, placeFault, pictureFault}
+use Rattle.calls.proofs.Answers.{into-given, number-answer}
 use Rattle.ranking.proofs.Indexes.{index-range, index-long}
 use Rattle.words.specs.Says.{RotationSays, TurnSays}
 use Rattle.ranking.specs.Says.{RankSays, WordSays}
 use Rattle.marks.specs.Says.{MarkSays, PlaceSays, PrintSays}
+use Rattle.pbm.specs.Pictures.{picture, fileSize}
+use Rattle.pbm.proofs.Rows.{file-size}
+use Rattle.pictures.specs.Says.{PictureSays, BothSay}
+use Rattle.pictures.proofs.Framing.{none}
 use Rattle.lookups.specs.Says.{answerAt, answerSize, LookupSays, Picked, SmudgedSays}
 use Rattle.demands.specs.Trays.{Keeps, Trays}
 
@@ -152,6 +156,29 @@ print-answers k n p c t t′ r e =
     let long = letters-length (k ^ n) (strip k n) p c in
     answers (marksFrom k n p c) (λ _. long) (print-into (placeFault k n p) c (marksFrom k n p c) t t′ r long e)
 
+-- a picture's file; with the tray of its size, a size that does not fit counts as a fault
+file-long : (k n p c h : ℕ) → pictureFault k n p c h ≡ 0 → length (picture k n p c h) ≡ fileSize c h
+file-long k n p c h z = let (_, _, f) = none k n p c h z in file-size k n p c h (f .some)
+
+pub picture-answers : (k n p c h : ℕ) (t t′ : List ℕ) (r : DV.Value) → PictureSays k n p c h t t′ r → Answers (fileSize c h) (pictureFault k n p c h) t t′ (r .number)
+picture-answers k n p c h t t′ r e = answers (picture k n p c h) (file-long k n p c h) (e .0)
+
+pub both-answers : (k n p c h : ℕ) (s s′ t t′ : List ℕ) (r : ℕ) → BothSay k n p c h s s′ t t′ r
+    → Answers (fileSize c h) (firstOf (pictureFault k n p c h) (when (ltb (length s) 8) 6)) t t′ r
+both-answers k n p c h s s′ t t′ r e = answers (picture k n p c h) (λ z. file-long k n p c h (first-none (pictureFault k n p c h) _ z .0)) (e .0)
+
+size-keeps : (k n p c h : ℕ) (s s′ t t′ : List ℕ) (r : ℕ) → BothSay k n p c h s s′ t t′ r → Keeps 8 s s′ r
+size-keeps k n p c h s s′ t t′ r e = elim (ℕ-discrete r 0) [
+  | yes z ↦
+      let f = firstOf (pictureFault k n p c h) (when (ltb (length s) 8) 6) in
+      let fine : f ≡ 0 = answered f (pick (eqb f 0) (picture k n p c h) []) t (e .0) z .0 in
+      let room : 8 ≤ length s = ltb-false (length s) 8 (when-none _ 6 (λ y. omega arith) (first-none (pictureFault k n p c h) _ fine .1)) in
+      let v = length (picture k n p c h) in
+      let is : s′ ≡ over (putBe 8 v) s = rw z at e .1 in
+      keeps {f = 0} (answers (putBe 8 v) (λ _. refl) (number-answer v s refl room z is))
+  | no z ↦ let same : s′ ≡ s = rw (ne-eqb r 0 z) at e .1 in (λ _. same, ap length same, ap (drop 8) same)
+]
+
 pub look-up-answers : (s w t t′ : List ℕ) (r : ℕ) → LookupSays s w t t′ r → Answers answerSize (lookupFault s w) t t′ r
 look-up-answers s w t t′ r e = answers (answerAt s (placeOf (shades s) (marks s) w)) (λ _. refl) e
 
@@ -177,6 +204,8 @@ trays = record {
   mark-at = λ k n p t t′ r e. keeps (mark-answers k n p t t′ r e);
   place-of = λ k n w t t′ r e. keeps (place-answers k n w t t′ r e);
   print-marks = λ k n p c t t′ r e. keeps (print-answers k n p c t t′ r e);
+  print-picture = λ k n p c h t t′ r e. keeps (picture-answers k n p c h t t′ r e);
+  picture-of = λ k n p c h s s′ t t′ r e. (size-keeps k n p c h s s′ t t′ r e, keeps (both-answers k n p c h s s′ t t′ r e));
   look-up = λ s w t t′ r e. keeps (look-up-answers s w t t′ r e);
   look-up-smudged = λ s w t t′ r e. keeps (smudged-answers s w t t′ r e);
 }

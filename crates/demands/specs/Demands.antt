@@ -2,7 +2,7 @@
 -- A call's promise says what it gives for every argument (specs/Says of words, marks and lookups; Cursors of cursors): here it stands as a premise.
 use mathlib.Core.Path.{_≡_}
 use mathlib.Core.Bool.{Bool, true, not}
-use mathlib.Core.List.{List, []}
+use mathlib.Core.List.{List, [], _++_}
 use mathlib.Core.Logic.{_↔_, _≢_}
 use Prim.Native.Nat.{ℕ, suc, _+_, _^_, _≤_, _<_}
 use lib.ListN.{length, getD, take, drop, replicate}
@@ -19,6 +19,11 @@ use Rattle.calls.specs.Answers.{IntoValue, ValueIs}
 use Rattle.words.specs.Says.{LyndonSays, RotationSays, TurnSays, RootSays}
 use Rattle.ranking.specs.Says.{ManySays, RankSays, WordSays}
 use Rattle.marks.specs.Says.{MarkSays, PlaceSays, PrintSays}
+use Rattle.pbm.specs.declared.Parts as DP
+use Rattle.pbm.specs.Pictures.{picture, fileSize, readPicture, Pictures}
+use Rattle.pbm.specs.Parts.{Parted}
+use Rattle.pictures.specs.Says.{PictureSays, BothSay}
+use Rattle.pictures.specs.Requests.{headFor, rowFor, rowsFor, pictureFor}
 use Rattle.lookups.specs.Says.{answerSize, LookupSays, SmudgedSays}
 use Rattle.cursors.specs.declared.Cursor as DC
 use Rattle.cursors.specs.declared.Started as DS
@@ -87,6 +92,20 @@ pub record Demands : Type 0 where
   -- print_marks of any number of marks: each is the strip's, round the end as often as need be
   pub printed : (k n p c : ℕ) (t t′ : List ℕ) (r : ℕ) → admitted k n ≡ true → p < k ^ n → c ≤ length t → PrintSays k n p c t t′ r
       → (r ≡ 0) × (take c t′ ≡ marksFrom k n p c) × ((j : ℕ) → j < c → getD t′ j 0 ≡ markAt k n (p + j))
+  -- Pictures: the file's lines, its size, and that what is read of it is what was drawn
+  pub pictures : Pictures
+  -- print_picture writes the file and answers its size; its digits, read back, are the marks that print_marks writes, in every row
+  pub picture-back : (n p c h : ℕ) (t t′ u u′ : List ℕ) (r : DV.Value) (q : ℕ) → admitted 2 n ≡ true → p < 2 ^ n → 1 ≤ c → c ≤ 60000 → 1 ≤ h → h ≤ 64
+      → fileSize c h ≤ length t → c ≤ length u → PictureSays 2 n p c h t t′ r → PrintSays 2 n p c u u′ q
+      → (r .number ≡ 0) × (r .value ≡ fileSize c h) × (q ≡ 0)
+      × (readPicture (take (r .value) t′) ≡ record { plain = true; width = c; height = h; marks = repeated h (take c u′) })
+  -- picture_of writes the same file, and its size into the other tray
+  pub picture-both : (n p c h : ℕ) (s s′ t t′ : List ℕ) (r : ℕ) → admitted 2 n ≡ true → p < 2 ^ n → 1 ≤ c → c ≤ 60000 → 1 ≤ h → h ≤ 64
+      → 8 ≤ length s → fileSize c h ≤ length t → BothSay 2 n p c h s s′ t t′ r
+      → (r ≡ 0) × (be 0 8 s′ ≡ fileSize c h) × (take (be 0 8 s′) t′ ≡ picture 2 n p c h)
+  -- stripprint: the head and as many rows, as its parts are told, are the file that the request asks for; nothing, if it asks for none
+  pub picture-by-rows : (s b t : List ℕ) (r : DP.Parts) → Parted (headFor s) (rowFor s) (rowsFor s) b t r
+      → take (r .head) t ++ repeated (r .rows) (drop (r .head) (take (r .end) t)) ≡ pictureFor s
   -- Cursors: a start gives a cursor without fault on the place; refused, one that is zero in every field
   pub started : (k n p : ℕ) (r : DS.Started) → admitted k n ≡ true → p < k ^ n → StartSays k n p r
       → (r .number ≡ 0) × (r .cursor .k ≡ k) × (r .cursor .n ≡ n) × (cursorFault (r .cursor) ≡ 0) × (placeIn (cursorIn (r .cursor)) ≡ p)

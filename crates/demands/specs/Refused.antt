@@ -18,6 +18,8 @@ use Rattle.calls.specs.Order.{order, Rule, rule, appliesIn, given}
 use Rattle.words.specs.Says.{LyndonSays, RotationSays, TurnSays, RootSays}
 use Rattle.ranking.specs.Says.{ManySays, RankSays, WordSays}
 use Rattle.marks.specs.Says.{MarkSays, PlaceSays, PrintSays}
+use Rattle.pbm.specs.Pictures.{fileSize}
+use Rattle.pictures.specs.Says.{PictureSays, BothSay}
 use Rattle.lookups.specs.Says.{answerSize, PlanSays, LookupSays, SmudgedSays}
 use Rattle.cursors.specs.declared.Cursor as DC
 use Rattle.cursors.specs.declared.Started as DS
@@ -57,9 +59,17 @@ smudgeRules k n w = rule 2 (not (eqb (length w) n)) ∷ rule 11 (ltb 2 (length (
 abbrev pub smudgedRules : List ℕ → List ℕ → List Rule
 smudgedRules s w = planRules s ++ (smudgeRules (shades s) (marks s) w ++ (rule 9 (eqb (length (fitting s w)) 0) ∷ []))
 
--- tray too small for b bytes
+-- a picture: two shades only, off the strip, bad picture
+abbrev pub pictureRules : ℕ → ℕ → ℕ → ℕ → ℕ → List Rule
+pictureRules k n p c h =
+    stripRules k n ++ (rule 12 (not (eqb k 2)) ∷ rule 4 (leb (k ^ n) p) ∷ rule 13 (not (leb 1 c && (leb c 60000 && (leb 1 h && leb h 64)))) ∷ [])
+
+-- tray too small for b bytes; one of two trays
 abbrev pub trayRules : List ℕ → ℕ → List Rule
 trayRules t b = rule 6 (ltb (length t) b) ∷ []
+
+abbrev pub traysRules : List ℕ → ℕ → List ℕ → ℕ → List Rule
+traysRules s a t b = rule 6 (ltb (length s) a || ltb (length t) b) ∷ []
 
 pub record Refusals : Type 0 where
   -- what `given` means: 0 just when nothing applies, a number just when it applies and none before it in the order does
@@ -77,6 +87,9 @@ pub record Refusals : Type 0 where
   pub mark-at : (k n p : ℕ) (t t′ : List ℕ) (r : ℕ) → MarkSays k n p t t′ r → r ≡ given (placeRules k n p ++ trayRules t 8)
   pub place-of : (k n : ℕ) (w t t′ : List ℕ) (r : ℕ) → PlaceSays k n w t t′ r → r ≡ given (wordRules k n w ++ trayRules t 8)
   pub print-marks : (k n p c : ℕ) (t t′ : List ℕ) (r : ℕ) → PrintSays k n p c t t′ r → r ≡ given (placeRules k n p ++ trayRules t c)
+  pub print-picture : (k n p c h : ℕ) (t t′ : List ℕ) (r : DV.Value) → PictureSays k n p c h t t′ r → r .number ≡ given (pictureRules k n p c h ++ trayRules t (fileSize c h))
+  pub picture-of : (k n p c h : ℕ) (s s′ t t′ : List ℕ) (r : ℕ) → BothSay k n p c h s s′ t t′ r
+      → r ≡ given (pictureRules k n p c h ++ traysRules s 8 t (fileSize c h))
   pub check-plan : (s : List ℕ) (r : ℕ) → PlanSays s r → r ≡ given (planRules s)
   pub look-up : (s w t t′ : List ℕ) (r : ℕ) → LookupSays s w t t′ r → r ≡ given (layingRules s w ++ trayRules t answerSize)
   pub look-up-smudged : (s w t t′ : List ℕ) (r : ℕ) → SmudgedSays s w t t′ r → r ≡ given (smudgedRules s w ++ trayRules t answerSize)

@@ -8,6 +8,8 @@ use Rattle.calls.specs.declared.Value as DV
 use Rattle.words.specs.Says.{RotationSays, TurnSays}
 use Rattle.ranking.specs.Says.{RankSays, WordSays}
 use Rattle.marks.specs.Says.{MarkSays, PlaceSays, PrintSays}
+use Rattle.pbm.specs.Pictures.{fileSize}
+use Rattle.pictures.specs.Says.{PictureSays, BothSay}
 use Rattle.lookups.specs.Says.{answerSize, LookupSays, SmudgedSays}
 
 -- with an answer of b bytes: a refusal leaves the tray as it was, its length never changes, and the bytes after the first b stay
@@ -22,5 +24,7 @@ pub record Trays : Type 0 where
   pub mark-at : (k n p : ℕ) (t t′ : List ℕ) (r : ℕ) → MarkSays k n p t t′ r → Keeps 8 t t′ r
   pub place-of : (k n : ℕ) (w t t′ : List ℕ) (r : ℕ) → PlaceSays k n w t t′ r → Keeps 8 t t′ r
   pub print-marks : (k n p c : ℕ) (t t′ : List ℕ) (r : ℕ) → PrintSays k n p c t t′ r → Keeps c t t′ r
+  pub print-picture : (k n p c h : ℕ) (t t′ : List ℕ) (r : DV.Value) → PictureSays k n p c h t t′ r → Keeps (fileSize c h) t t′ (r .number)
+  pub picture-of : (k n p c h : ℕ) (s s′ t t′ : List ℕ) (r : ℕ) → BothSay k n p c h s s′ t t′ r → Keeps 8 s s′ r × Keeps (fileSize c h) t t′ r
   pub look-up : (s w t t′ : List ℕ) (r : ℕ) → LookupSays s w t t′ r → Keeps answerSize t t′ r
   pub look-up-smudged : (s w t t′ : List ℕ) (r : ℕ) → SmudgedSays s w t t′ r → Keeps answerSize t t′ r

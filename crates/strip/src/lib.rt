@@ -3,6 +3,7 @@ ghost use Rattle.words.specs.Says.{TurnSays};
 ghost use Rattle.ranking.specs.Says.{RankSays, WordSays};
 ghost use Rattle.marks.specs.Says.{MarkSays, PlaceSays, PrintSays};
 ghost use Rattle.lookups.specs.Says.{LookupSays, SmudgedSays};
+ghost use Rattle.pictures.specs.Says.{BothSay};
 
 // The turn from a word to its smallest rotation, as 8 bytes.
 #[no_mangle]
@@ -66,4 +67,20 @@ pub extern "C" fn look_up_smudged(plan: &[u8], window: &[u8], tray: &mut [u8]) -
     ensures { λ r. ⌜ SmudgedSays (now (plan .entry)) (now (window .entry)) (now (tray .entry)) (now (tray .exit)) r ⌝ }
 {
     lookups::look_up_smudged(plan, window, tray)
+}
+
+// A picture of the marks from a place on, as a plain PBM file in the tray's first bytes; its size, as 8 bytes in a tray of its own.
+#[no_mangle]
+pub extern "C" fn picture_of(
+    k: u64,
+    n: u64,
+    place: u64,
+    width: u64,
+    height: u64,
+    size: &mut [u8],
+    tray: &mut [u8],
+) -> u8
+    ensures { λ r. ⌜ BothSay k n place width height (now (size .entry)) (now (size .exit)) (now (tray .entry)) (now (tray .exit)) r ⌝ }
+{
+    pictures::picture_of(k, n, place, width, height, size, tray)
 }

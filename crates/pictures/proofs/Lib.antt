@@ -1,0 +1,4 @@
+-- Laws of pictures as answers.
+pub mod Framing
+pub mod Answering
+pub mod Requesting

@@ -1,0 +1,3 @@
+-- What the calls on pictures promise, and what is printed for a request.
+pub mod Says
+pub mod Requests
