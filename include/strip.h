@@ -8,8 +8,8 @@
    the tray behind the answer are never touched. A number in a tray has its highest byte first.
 
    A call may come with any numbers and with any bytes in its slices; if several refusals apply, the first in the order
-   7, 1, 8, 2, 11, 3, 4, 5, 9, 6 is given. No call here gives 10, a lost cursor. What the caller must promise, since C cannot check it: each
-   pointer is valid for its length (a null pointer only with length 0), and the tray overlaps none of the other slices. The calls keep no
+   7, 1, 12, 8, 2, 11, 3, 4, 13, 5, 9, 6 is given. No call here gives 10, a lost cursor. What the caller must promise, since C cannot check it: each
+   pointer is valid for its length (a null pointer only with length 0), and no tray overlaps another slice. The calls keep no
    state and may run in several threads at once, each with its own tray.
 
    For x86-64 Linux only. The Rattle kit rattle-kit-5b (logic 064da1ca440f63e7) builds the library with `rt staticlib strip`; link it with
@@ -32,7 +32,7 @@ extern "C" {
 
 /* The major number rises with a change that a host must react to, the minor number with a new call. */
 #define STRIP_VERSION_MAJOR 2
-#define STRIP_VERSION_MINOR 0
+#define STRIP_VERSION_MINOR 1
 
 /* Limits: k from 2, n from 1, and k^n at most 2^60; sections of a plan, and its bytes. */
 #define STRIP_MOST_SHADES 36
@@ -41,6 +41,12 @@ extern "C" {
 #define STRIP_MOST_SECTIONS 500
 #define STRIP_MOST_PLAN (4 + 16 * STRIP_MOST_SECTIONS)
 
+/* Pictures: width and height from 1, and bytes that hold any file of so many marks in so many rows; its size is at most 5 less. */
+#define STRIP_MOST_WIDTH 60000
+#define STRIP_MOST_HEIGHT 64
+#define STRIP_PICTURE(width, height) (12 + (height) * ((width) + ((width) + 69) / 70))
+#define STRIP_MOST_PICTURE STRIP_PICTURE(STRIP_MOST_WIDTH, STRIP_MOST_HEIGHT) /* 3,894,924 */
+
 /* In look_up_smudged alone: the byte for a mark that the head could not read, and how many of these a window may have. */
 #define STRIP_UNREAD 255
 #define STRIP_MOST_UNREAD 2
@@ -48,16 +54,18 @@ extern "C" {
 /* Numbers that a call returns. */
 enum {
     STRIP_FINE = 0,
-    STRIP_NO_SUCH_STRIP = 1,  /* k, n or k^n is outside the limits */
-    STRIP_WRONG_WINDOW = 2,   /* the word does not have n marks */
-    STRIP_BAD_MARK = 3,       /* a mark is k or more */
-    STRIP_OFF_THE_STRIP = 4,  /* a place is k^n or more */
-    STRIP_NO_SUCH_WORD = 5,   /* an index is 0 or above the number of Lyndon words */
-    STRIP_TRAY_TOO_SMALL = 6, /* the tray is shorter than the answer */
-    STRIP_TORN_PLAN = 7,      /* under 4 bytes, more than 500 sections, or a wrong total */
-    STRIP_CROOKED_PLAN = 8,   /* a section is too short, overlaps the one ahead or ends behind the strip */
-    STRIP_NOT_LAID = 9,       /* neither in a section nor across a welded joint; nor is a window that agrees */
-    STRIP_TOO_SMUDGED = 11    /* three or more marks were not read */
+    STRIP_NO_SUCH_STRIP = 1,        /* k, n or k^n is outside the limits */
+    STRIP_WRONG_WINDOW = 2,         /* the word does not have n marks */
+    STRIP_BAD_MARK = 3,             /* a mark is k or more */
+    STRIP_OFF_THE_STRIP = 4,        /* a place is k^n or more */
+    STRIP_NO_SUCH_WORD = 5,         /* an index is 0 or above the number of Lyndon words */
+    STRIP_TRAY_TOO_SMALL = 6,       /* a tray is shorter than its answer */
+    STRIP_TORN_PLAN = 7,            /* under 4 bytes, more than 500 sections, or a wrong total */
+    STRIP_CROOKED_PLAN = 8,         /* a section is too short, overlaps the one ahead or ends behind the strip */
+    STRIP_NOT_LAID = 9,             /* neither in a section nor across a welded joint; nor is a window that agrees */
+    STRIP_TOO_SMUDGED = 11,         /* three or more marks were not read */
+    STRIP_TWO_SHADES_ONLY = 12,     /* a picture of a strip with more than two shades */
+    STRIP_BAD_PICTURE = 13          /* a picture's width or height is outside the limits */
 };
 
 /* What a returned number means, in words. */
@@ -74,6 +82,8 @@ static inline const char *strip_meaning(unsigned number) {
     case STRIP_CROOKED_PLAN: return "crooked plan";
     case STRIP_NOT_LAID: return "not laid";
     case STRIP_TOO_SMUDGED: return "too smudged";
+    case STRIP_TWO_SHADES_ONLY: return "two shades only";
+    case STRIP_BAD_PICTURE: return "bad picture";
     }
     return "refused";
 }
@@ -102,6 +112,22 @@ uint8_t place_of(uint64_t k, uint64_t n, const uint8_t *window, size_t window_le
 /* So many marks from a place on, round the end as often as need be, a byte each; `marks` may be 0. Tray: `marks` bytes.
    Refusals: 1, 4, 6. */
 uint8_t print_marks(uint64_t k, uint64_t n, uint64_t place, uint64_t marks, uint8_t *tray, size_t tray_len);
+
+/* A picture of the strip for a printer: `width` marks from a place on, round the end as often as need be, in `height` rows that are all the same, as
+   a plain PBM file. It has the line P1, the line with width and height, parted by a space, then for each row its marks as digits, in lines of
+   70, the last one shorter if need be. Each line ends with byte 10. k must be 2; mark 1 is black.
+
+   There are two trays: the size of the file, a number, goes into the first, of 8 bytes, the file into the second, which STRIP_PICTURE(width,
+   height) bytes always hold. 6 is given if either is too short; then neither is touched. Refusals: 1, 12, 4, 13, 6.
+
+   Example. The strip of windows of 4, 0000100110101111, from place 4 on:
+
+       uint8_t size[STRIP_NUMBER], file[STRIP_PICTURE(5, 2)];
+       picture_of(2, 4, 4, 5, 2, size, sizeof size, file, sizeof file);
+
+   returns 0, leaves 0 0 0 0 0 0 0 19 in `size`, and in `file` the 19 bytes "P1\n5 2\n10011\n10011\n". */
+uint8_t picture_of(uint64_t k, uint64_t n, uint64_t place, uint64_t width, uint64_t height, uint8_t *size, size_t size_len, uint8_t *tray,
+                   size_t tray_len);
 
 /* The section of a laying plan in which a window is read, and its distance from the section's start. Tray: 10 bytes, the section's number
    from 0 in 2 and the distance in 8. Refusals: 7, 1, 8, 2, 3, 9, 6.

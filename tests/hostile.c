@@ -6,14 +6,15 @@
 #include "lent.h"
 #include <limits.h>
 
-enum { TURN, RANK, WORD, MARK, PLACE, PRINT, LOOK, SMUDGED, CALLS };
+enum { TURN, RANK, WORD, MARK, PLACE, PRINT, PICTURE, LOOK, SMUDGED, CALLS };
 enum { SHADES = 36, LONGEST = 60, MOST_SECTIONS = 500, NUMBER = 8, LAYING = 10, UNREAD = 255, MOST_UNREAD = 2 };
-enum { MOST_WORD = 96, MOST_TRAY = 6000, MOST_PLAN = 9000 };
+enum { WIDEST = 60000, HIGHEST = 64, LINE = 70 };
+enum { MOST_WORD = 96, MOST_TRAY = 1 << 18, MOST_PLAN = 9000, MOST_SIZE = 16 };
 #define MOST_PLACES ((uint64_t)1 << 60)
-static const char *const NAMES[CALLS] = {"turn_of", "rank_of", "word_of", "mark_at", "place_of", "print_marks", "look_up", "look_up_smudged"};
+static const char *const NAMES[CALLS] = {"turn_of", "rank_of", "word_of", "mark_at", "place_of", "print_marks", "picture_of", "look_up", "look_up_smudged"};
 
 /* The order of the refusals. Those that apply are a mask with a bit for each number; what is counted by number has room for every bit. */
-#define IN_ORDER(X) X(7) X(1) X(8) X(10) X(2) X(11) X(3) X(4) X(5) X(9) X(6)
+#define IN_ORDER(X) X(7) X(1) X(12) X(8) X(10) X(2) X(11) X(3) X(4) X(13) X(5) X(9) X(6)
 #define LISTED(number) number,
 #define HAS_A_BIT(number) && (number) < BITS
 enum { BITS = sizeof(unsigned) * CHAR_BIT };
@@ -24,24 +25,25 @@ _Static_assert(1 IN_ORDER(HAS_A_BIT), "a refusal's number has no bit in a mask")
 _Static_assert(STRIP_MOST_SHADES == SHADES && STRIP_MOST_MARKS == LONGEST && STRIP_MOST_PLACES == MOST_PLACES, "limits of a strip");
 _Static_assert(STRIP_MOST_SECTIONS == MOST_SECTIONS && STRIP_MOST_PLAN == 4 + 16 * MOST_SECTIONS, "limits of a plan");
 _Static_assert(STRIP_NUMBER == NUMBER && STRIP_LAYING == LAYING, "bytes of an answer");
+_Static_assert(STRIP_MOST_WIDTH == WIDEST && STRIP_MOST_HEIGHT == HIGHEST && STRIP_MOST_PICTURE == 3894924, "limits of a picture");
 _Static_assert(STRIP_UNREAD == UNREAD && STRIP_MOST_UNREAD == MOST_UNREAD, "marks that were not read");
 _Static_assert(MOST_PLAN >= 4 + 16 * (MOST_SECTIONS + 1) + 16, "a plan of one section too many, and a longer one, have room");
 
 struct ask {
     int call, kind;
-    uint64_t k, n, number, marks;
+    uint64_t k, n, number, marks, height; /* the marks of a picture are its width */
     const uint8_t *input, *plan;
-    size_t input_length, plan_length, tray_length;
+    size_t input_length, plan_length, tray_length, size_length; /* the last is that of the tray for a picture's size */
 };
 
-static struct room input_room, plan_room, tray_room;
+static struct room input_room, plan_room, tray_room, size_room;
 static unsigned long refused[BITS], failures, round_trips[CALLS];
 
 static void fail(const struct ask *a, const char *what, unsigned given, unsigned wanted) {
     if (failures++ >= 20) return;
-    printf("%s: %s; k %llu, n %llu, number %llu, marks %llu, input of %zu, plan of %zu, tray of %zu; given %u, expected %u; input", NAMES[a->call],
-           what, (unsigned long long)a->k, (unsigned long long)a->n, (unsigned long long)a->number, (unsigned long long)a->marks,
-           a->input_length, a->plan_length, a->tray_length, given, wanted);
+    printf("%s: %s; k %llu, n %llu, number %llu, marks %llu, height %llu, input of %zu, plan of %zu, tray of %zu, for the size %zu; given %u, expected %u; input",
+           NAMES[a->call], what, (unsigned long long)a->k, (unsigned long long)a->n, (unsigned long long)a->number, (unsigned long long)a->marks,
+           (unsigned long long)a->height, a->input_length, a->plan_length, a->tray_length, a->size_length, given, wanted);
     for (size_t i = 0; i < a->input_length; i++) printf(" %u", a->input[i]);
     printf("; plan");
     for (size_t i = 0; i < a->plan_length && i < 100; i++) printf(" %02x", a->plan[i]);
@@ -199,7 +201,23 @@ static int takes_a_word(int call) {
     return call == TURN || call == RANK || call == PLACE;
 }
 
+static int is_drawable(const struct ask *a) {
+    return a->marks >= 1 && a->marks <= WIDEST && a->height >= 1 && a->height <= HIGHEST;
+}
+
+/* a picture's two lines ahead of its rows */
+static size_t picture_head(const struct ask *a, char *head, size_t room) {
+    return (size_t)snprintf(head, room, "P1\n%llu %llu\n", (unsigned long long)a->marks, (unsigned long long)a->height);
+}
+
+static size_t picture_length(const struct ask *a) {
+    char head[64];
+    if (!is_drawable(a)) return 0;
+    return picture_head(a, head, sizeof head) + (size_t)(a->height * (a->marks + (a->marks + LINE - 1) / LINE));
+}
+
 static size_t answer_length(const struct ask *a) {
+    if (a->call == PICTURE) return picture_length(a);
     size_t marks = a->marks > SIZE_MAX ? SIZE_MAX : (size_t)a->marks;
     return a->call == WORD ? (size_t)a->n : a->call == PRINT ? marks : a->call == LOOK || a->call == SMUDGED ? LAYING : NUMBER;
 }
@@ -216,10 +234,13 @@ static unsigned faults_of(const struct ask *a) {
         int good = admitted(a->k, a->n, &places);
         if (!good) faults |= 1u << 1;
         if (takes_a_word(a->call)) faults |= word_faults(a->k, a->n, a->input, a->input_length);
-        if (good && (a->call == MARK || a->call == PRINT) && a->number >= places) faults |= 1u << 4;
+        if (good && (a->call == MARK || a->call == PRINT || a->call == PICTURE) && a->number >= places) faults |= 1u << 4;
+        if (a->call == PICTURE && a->k != 2) faults |= 1u << 12;
+        if (a->call == PICTURE && !is_drawable(a)) faults |= 1u << 13;
         if (good && a->call == WORD && (a->number == 0 || a->number > lyndon_count(a->k, a->n))) faults |= 1u << 5;
     }
     if (faults == 0 && a->tray_length < answer_length(a)) faults |= 1u << 6;
+    if (faults == 0 && a->call == PICTURE && a->size_length < NUMBER) faults |= 1u << 6;
     return faults;
 }
 
@@ -282,6 +303,24 @@ static int sound_print(const struct ask *a, const uint8_t *marks) {
            place_by_library(a->k, a->n, marks + a->marks - a->n) == (a->number + a->marks - a->n) % places;
 }
 
+/* the head, then lines of at most so many digits, which, read on over the lines' ends, are the printed marks in every row */
+static int sound_picture(const struct ask *a, const uint8_t *file) {
+    static uint8_t marks[WIDEST];
+    char head[64];
+    size_t length = picture_length(a), at = picture_head(a, head, sizeof head), in_line = 0;
+    uint64_t digits = 0;
+    if (memcmp(file, head, at) != 0 || print_marks(a->k, a->n, a->number, a->marks, marks, a->marks) != 0) return 0;
+    for (; at < length; at++) {
+        if (file[at] == '\n') {
+            if (in_line == 0 || (in_line < LINE && digits % a->marks != 0)) return 0;
+            in_line = 0;
+        } else if (++in_line > LINE || file[at] != '0' + marks[digits++ % a->marks]) {
+            return 0;
+        }
+    }
+    return digits == a->marks * a->height && in_line == 0;
+}
+
 /* the section and the distance are those of the window there, which agrees with what was read */
 static int sound_smudged(const struct ask *a, const uint8_t *answer) {
     uint8_t right[LAYING], window[LONGEST];
@@ -303,6 +342,7 @@ static int sound(const struct ask *a, const uint8_t *answer) {
     case MARK: return sound_mark(a, number_in(answer, 8));
     case PLACE: return sound_place(a, number_in(answer, 8));
     case PRINT: return sound_print(a, answer);
+    case PICTURE: return sound_picture(a, answer);
     case SMUDGED: return sound_smudged(a, answer);
     }
     uint8_t right[LAYING];
@@ -311,7 +351,7 @@ static int sound(const struct ask *a, const uint8_t *answer) {
 
 /* One call */
 
-static unsigned call(const struct ask *a, const uint8_t *input, const uint8_t *plan, const struct lent *tray) {
+static unsigned call(const struct ask *a, const uint8_t *input, const uint8_t *plan, const struct lent *size, const struct lent *tray) {
     switch (a->call) {
     case TURN: return turn_of(a->k, a->n, input, a->input_length, tray->bytes, tray->length);
     case RANK: return rank_of(a->k, a->n, input, a->input_length, tray->bytes, tray->length);
@@ -319,6 +359,7 @@ static unsigned call(const struct ask *a, const uint8_t *input, const uint8_t *p
     case MARK: return mark_at(a->k, a->n, a->number, tray->bytes, tray->length);
     case PLACE: return place_of(a->k, a->n, input, a->input_length, tray->bytes, tray->length);
     case PRINT: return print_marks(a->k, a->n, a->number, a->marks, tray->bytes, tray->length);
+    case PICTURE: return picture_of(a->k, a->n, a->number, a->marks, a->height, size->bytes, size->length, tray->bytes, tray->length);
     case SMUDGED: return look_up_smudged(plan, a->plan_length, input, a->input_length, tray->bytes, tray->length);
     }
     return look_up(plan, a->plan_length, input, a->input_length, tray->bytes, tray->length);
@@ -330,26 +371,34 @@ static void try_call(const struct ask *a) {
     struct lent input = lend_copy(input_room, a->input, a->input_length, a->kind);
     struct lent plan = lend_copy(plan_room, a->plan, a->plan_length, a->kind);
     struct lent tray = lend(tray_room, a->tray_length, a->kind);
-    unsigned given = call(a, input.bytes, plan.bytes, &tray);
+    struct lent size = lend(size_room, a->size_length, a->kind);
+    unsigned given = call(a, input.bytes, plan.bytes, &size, &tray);
     size_t length = wanted == 0 && given == 0 ? answer_length(a) : 0;
+    uint8_t told[NUMBER];
+    put_number(told, length, NUMBER);
     if (length != 0) memcpy(answer, tray.bytes, length);
     if (given != wanted) fail(a, "number", given, wanted);
     else if (!holds(&tray, answer, length)) fail(a, "a byte that must stay", given, wanted);
+    else if (!holds(&size, told, a->call == PICTURE && given == 0 ? NUMBER : 0)) fail(a, "the size", given, wanted);
     else if (!holds(&input, a->input, a->input_length) || !holds(&plan, a->plan, a->plan_length)) fail(a, "an input", given, wanted);
     else if (given == 0 && !sound(a, answer)) fail(a, "answer", given, wanted);
     refused[wanted]++;
     give_back(&input);
     give_back(&plan);
     give_back(&tray);
+    give_back(&size);
 }
 
-/* with trays of no bytes, one too few, exact, and more; in every kind of memory */
+/* with trays of no bytes, one too few, exact, and more; in every kind of memory; each with every length of the tray for a size */
+static const size_t SIZE_LENGTHS[4] = {NUMBER, NUMBER - 1, NUMBER + 3, 0};
+
 static void try_trays(struct ask a) {
     size_t exact = answer_length(&a) <= 64 ? answer_length(&a) : 64;
     size_t lengths[] = {0, exact == 0 ? 0 : exact - 1, exact, exact + 3, 80};
     for (size_t i = 0; i < sizeof lengths / sizeof *lengths; i++)
         for (a.kind = 0; a.kind < KINDS; a.kind++) {
             a.tray_length = lengths[i];
+            a.size_length = SIZE_LENGTHS[(i + (size_t)a.kind) % 4];
             try_call(&a);
         }
 }
@@ -360,6 +409,19 @@ static const uint64_t STRIPS[][2] = {
     {3, 4}, {2, 6}, {36, 11}, {2, 60}, {2, 1}, {0, 4}, {1, 4}, {37, 1}, {3, 0}, {2, 61}, {36, 12}, {4, 31}, {0, 0},
     {(1ull << 32) + 3, 4}, {3, (1ull << 32) + 4}, {256 + 2, 6}, {2, 256 + 6}, {UINT64_MAX, 4}, {3, UINT64_MAX}, {UINT64_MAX, UINT64_MAX}};
 static const uint64_t NUMBERS[] = {0, 1, 2, 8, 9, 63, 64, 80, 81, 1ull << 60, (1ull << 60) - 1, 1ull << 63, UINT64_MAX};
+
+/* widths and heights of pictures: small ones, and ones outside the limits */
+static const uint64_t SIZES[][2] = {{1, 1}, {5, 2}, {40, 1}, {1, 11}, {0, 1}, {1, 0}, {60001, 1}, {1, 65}, {65537, 1}, {1, 257}, {(1ull << 32) + 1, 1},
+                                    {1, (1ull << 32) + 1}, {0, 0}, {UINT64_MAX, UINT64_MAX}};
+
+static void all_pictures(struct ask a) {
+    a.call = PICTURE;
+    for (size_t i = 0; i < sizeof SIZES / sizeof *SIZES; i++) {
+        a.marks = SIZES[i][0];
+        a.height = SIZES[i][1];
+        try_trays(a);
+    }
+}
 
 static void all_sets(void) {
     uint8_t word[MOST_WORD];
@@ -390,6 +452,7 @@ static void all_sets(void) {
                 try_trays(a);
             }
             a.marks = 0;
+            all_pictures(a);
         }
     }
 }
@@ -672,6 +735,19 @@ static void draw_smudge(uint64_t k, uint8_t *window, size_t length) {
     for (; unread > 0 && length != 0; unread--) window[below(length)] = UNREAD;
 }
 
+/* a picture: mostly of two shades and within the limits; most files are short */
+static void draw_picture(struct ask *a) {
+    uint64_t places;
+    if (below(8) != 0) a->k = 2, a->n = 1 + below(60);
+    admitted(a->k, a->n, &places);
+    a->number = draw_number(places);
+    a->marks = 1 + below(below(8) == 0 ? 2000 : 150);
+    a->height = 1 + below(below(8) == 0 ? HIGHEST + 2 : 4);
+    if (below(16) == 0) a->marks = draw() >> below(64);
+    if (below(16) == 0) a->height = draw() >> below(64);
+    a->size_length = below(8) == 0 ? below(MOST_SIZE) : NUMBER;
+}
+
 static void draw_call(void) {
     static uint8_t word[256], plan[MOST_PLAN];
     uint64_t places;
@@ -688,7 +764,8 @@ static void draw_call(void) {
         a.input_length = draw_window(plan, a.plan_length, word);
     }
     if (a.call == SMUDGED) draw_smudge(a.k, word, a.input_length);
-    size_t exact = answer_length(&a) < 2000 ? answer_length(&a) : 2000;
+    if (a.call == PICTURE) draw_picture(&a);
+    size_t most = a.call == PICTURE ? MOST_TRAY - 64 : 2000, exact = answer_length(&a) < most ? answer_length(&a) : most;
     size_t lengths[] = {exact, exact, exact + 1, exact + 3, exact + below(64), exact == 0 ? 0 : exact - 1, below(64), 0};
     a.tray_length = lengths[below(8)];
     try_call(&a);
@@ -707,6 +784,7 @@ int main(int count, char **arguments) {
     input_room = make_room(256);
     plan_room = make_room(MOST_PLAN);
     tray_room = make_room(MOST_TRAY);
+    size_room = make_room(MOST_SIZE);
     all_sets();
     all_plan_sets();
     all_sections();

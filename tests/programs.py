@@ -4,11 +4,13 @@
     programs.py FOLDER      runs FOLDER/NAME for each program of the table PROGRAMS
     programs.py --names     prints the names of the programs
 """
+import shutil
 import subprocess
 import sys
 from pathlib import Path
 
 import replies
+import stripprint
 import stripwalk
 
 CRATES = Path(__file__).resolve().parent.parent / "crates"
@@ -16,8 +18,10 @@ CRATES = Path(__file__).resolve().parent.parent / "crates"
 # Each program that reads, with its inputs: a label, the input, and what must be written for it.
 PROGRAMS = {
     "stripwalk": stripwalk.inputs,
+    "stripprint": stripprint.inputs,
     "replies": replies.inputs,
 }
+SILENT = {"stripprint"}  # which write nothing for some inputs; any other writes something for each
 
 
 # Running and comparing
@@ -59,25 +63,40 @@ def show(name, label, given, expected, came, failure):
 
 
 def is_right(program, inputs):
-    """Whether a program writes what it should for each of its inputs, and there are some, and for each there is something to write."""
+    """Whether a program writes what it should for each of its inputs, and there are some, and for each, or for some, there is something to write."""
     if not program.is_file():
         print("programs: %s is not built" % program.name)
         return False
-    tried = wrong = lines = 0
+    tried = wrong = lines = silent = 0
+    may_be_silent = program.name in SILENT
     for label, given, expected in inputs:
         came, failure = run(program, given)
-        tried, lines = tried + 1, lines + expected.count(b"\n")
-        if failure or not expected or came != expected:
+        tried, lines, silent = tried + 1, lines + expected.count(b"\n"), silent + (not expected)
+        if failure or came != expected or not (expected or may_be_silent):
             wrong += 1
             if wrong <= SHOWN:
                 show(program.name, label, given, expected, came, failure)
-    if not tried:
-        print("programs: %s has no inputs" % program.name)
-    elif wrong:
+    if tried == silent or may_be_silent != (silent > 0):
+        print("programs: %s has %d inputs, of which %d get nothing" % (program.name, tried, silent))
+        return False
+    if wrong:
         print("programs: %s is wrong on %d of %d inputs" % (program.name, wrong, tried))
     else:
-        print("programs: %s wrote what it should for %s inputs, %s lines in all" % (program.name, format(tried, ","), format(lines, ",")))
-    return tried > 0 and wrong == 0
+        nothing = " and nothing for %s" % format(silent, ",") if silent else ""
+        print("programs: %s wrote what it should for %s inputs, %s lines in all%s" % (program.name, format(tried, ","), format(lines, ","), nothing))
+    return wrong == 0
+
+
+def netpbm_agrees(program):
+    """Whether netpbm, which is made apart from us, reads each picture and writes the same bytes again; if it is installed."""
+    netpbm = shutil.which("pnmnoraw")
+    if not netpbm:
+        print("programs: no picture was read by netpbm, which is not installed")
+        return True
+    pictures = [(label, run(program, given)[0]) for label, given, expected in stripprint.inputs() if expected]
+    wrong = [label for label, file in pictures if run(netpbm, file) != (file, "")]
+    print("programs: netpbm read %d pictures and wrote %s" % (len(pictures), "other bytes for %s" % wrong[:SHOWN] if wrong else "the same bytes again"))
+    return not wrong
 
 
 def main():
@@ -91,7 +110,7 @@ def main():
         sys.exit("programs: the table has %s, but those that have an input are %s" % (sorted(PROGRAMS), sorted(reading)))
     folder = Path(sys.argv[1]).resolve()
     verdicts = [is_right(folder / name, inputs()) for name, inputs in PROGRAMS.items()]
-    return 0 if all(verdicts) else 1
+    return 0 if all(verdicts) and netpbm_agrees(folder / "stripprint") else 1
 
 
 if __name__ == "__main__":

@@ -17,7 +17,7 @@ from model import LARGE, MOST_MARKS, MOST_PLACES, MOST_SHADES, cursor_start, cur
 from vectors import HUGE, plain, repeated, runs, topped
 
 MOST_BYTES = 65536  # of a request
-TRAY, BEFORE = 64, 170  # bytes of the tray, and what each holds before the call
+TRAY, PAPER, BEFORE = 64, 512, 170  # bytes of the tray, of that for a picture, and what each holds before the call
 
 # The numbers that each call can give; the asks below bring each of them about.
 GIVES = {
@@ -25,6 +25,7 @@ GIVES = {
     "shortest_root": (0, 1, 2, 3),
     "smallest_rotation": (0, 1, 2, 3, 6),
     "lyndon_count": (0, 1),
+    "print_picture": (0, 1, 4, 6, 12, 13),
     "check_plan": (0, 1, 7, 8),
     "start_cursor": (0, 1, 4),
     "cursor_place": (0, 1, 10),
@@ -58,6 +59,14 @@ def word_lines(body):
     yield line("lyndon_count", *model.lyndon_count(k, n))
 
 
+def picture_lines(body):
+    lent = int.from_bytes(body[40:], "big")
+    fault, file = model.picture_of(*numbers_in(body[:40]))
+    if lent < len(file):
+        fault, file = 6, b""
+    yield line("print_picture", fault, len(file), *file.ljust(PAPER, bytes([BEFORE])))
+
+
 def plan_lines(plan):
     yield line("check_plan", model.first(model.plan_faults(plan)))
 
@@ -75,7 +84,7 @@ def cursor_lines(body):
         yield line(call, fault, mark, passed, *fields_of(moved))
 
 
-LINES = {b"w": word_lines, b"p": plan_lines, b"s": start_lines, b"c": cursor_lines}
+LINES = {b"w": word_lines, b"i": picture_lines, b"p": plan_lines, b"s": start_lines, b"c": cursor_lines}
 
 
 def answer(request):
@@ -98,6 +107,10 @@ def ask_word(k, n, word, lent):
     return ask(b"w", number(k) + number(n) + bytes([lent]) + bytes(word))
 
 
+def ask_picture(k, n, place, width, height, lent):
+    return ask(b"i", b"".join(map(number, (k, n, place, width, height))) + lent.to_bytes(2, "big"))
+
+
 def ask_start(k, n, place):
     return ask(b"s", number(k) + number(n) + number(place))
 
@@ -110,6 +123,7 @@ def sample():
     good = cursor_start(2, 6, 28)[1]
     return b"".join((
         ask_word(2, 6, (0, 1, 1, 0, 1, 0), 9), ask_word(2, 6, (0, 1, 2, 0, 1, 0), 9), ask_word(2, 6, (0, 1, 0, 1, 1, 1), 5),
+        ask_picture(2, 4, 4, 5, 2, 21), ask_picture(3, 4, 4, 5, 2, 21), ask_picture(2, 4, 4, 5, 2, 18),
         ask(b"p", stripwalk.SAMPLE), ask(b"p", plan_bytes(2, 4, [(0, 8), (7, 5)])),
         ask_start(2, 6, 28), ask_start(2, 6, 64), ask_cursor(good), ask_cursor(good[:4] + (6,)),
     ))
@@ -157,6 +171,24 @@ def refused_words():
             yield ask_word(k, n, (0,) * length, lent)
             for at, bad in product(range(length), (min(k, 255), 255)):
                 yield ask_word(k, n, (0,) * at + (bad,) + (0,) * (length - at - 1), lent)
+
+
+# Pictures
+
+def pictures():
+    """Widths that fill lines, one more and one less, in trays one too short, exact and longer."""
+    for n in (1, 3, 9, 60):
+        for place, width, height in product((0, 2**n - 1), (1, 2, 69, 70, 71, 140, 141, 490), (1, 2, 3, 64)):
+            size = len(model.picture_of(2, n, place, width, height)[1])
+            for lent in {0, min(size - 1, PAPER), min(size, PAPER), PAPER}:
+                yield ask_picture(2, n, place, width, height, lent)
+
+
+def refused_pictures():
+    """1, 12, 4, 13 and 6: alone and together."""
+    sizes = ((1, 1), (60000, 64), (0, 1), (60001, 1), (1, 0), (1, 65), (2**32 + 1, 1), (1, 2**64 - 1))
+    for (k, n), place, (width, height), lent in product(((2, 4), (3, 4), (1, 4), (36, 12), (2, 61), (2**32 + 2, 4)), (0, 15, 16, 2**63), sizes, (0, 9, PAPER)):
+        yield ask_picture(k, n, place, width, height, lent)
 
 
 # Starts
@@ -316,6 +348,8 @@ def requests():
         "every tray": every_tray(),
         "every strip": every_strip(),
         "refused words": refused_words(),
+        "pictures": pictures(),
+        "refused pictures": refused_pictures(),
         "every start": every_start(),
         "large starts": large_starts(chance),
         "refused starts": refused_starts(),

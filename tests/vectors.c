@@ -1,26 +1,28 @@
 /* Reads calls with expected results, as vectors.py prints them, and compares the library: the number given back, the answer, and every
    byte that must stay, with trays one byte short, exact and longer. Of a smudged window several answers may be right: any of them is taken.
+   A picture has a tray for its size too, which is lent one byte short, exact and longer.
    Exits 1 if anything differs, or a call is never compared. */
 #include "../include/strip.h"
 #include "lent.h"
 
-enum { TURN, RANK, WORD, MARK, PLACE, PRINT, LOOK, SMUDGED, CALLS };
-enum { MOST_BYTES = 1 << 14, MOST_TRAY = 64 };
-static const char *const NAMES[CALLS] = {"turn", "rank", "word", "mark", "place", "print", "look", "smudged"};
+enum { TURN, RANK, WORD, MARK, PLACE, PRINT, PICTURE, LOOK, SMUDGED, CALLS };
+enum { MOST_BYTES = 1 << 14, MOST_ANSWER = 1 << 22, MOST_TRAY = 64 };
+static const char *const NAMES[CALLS] = {"turn", "rank", "word", "mark", "place", "print", "picture", "look", "smudged"};
 
 struct vector {
     int call;
-    uint64_t k, n, number, marks;
+    uint64_t k, n, number, marks, height; /* the marks of a picture are its width */
     size_t input_length, plan_length, answer_length, answers; /* so many answers, each of that length, one after the other */
-    uint8_t input[MOST_BYTES], plan[MOST_BYTES], answer[MOST_BYTES];
+    uint8_t input[MOST_BYTES], plan[MOST_BYTES], answer[MOST_ANSWER];
     unsigned refusal;
 };
 
 /* Numbers that the model takes for granted are those of the header. */
 _Static_assert(STRIP_FINE == 0 && STRIP_TRAY_TOO_SMALL == 6, "the refusal of a tray");
-_Static_assert(STRIP_MOST_PLAN < MOST_BYTES && STRIP_MOST_MARKS < MOST_TRAY && STRIP_LAYING < MOST_TRAY, "room for plans and answers");
+_Static_assert(STRIP_MOST_PLAN < MOST_BYTES && STRIP_MOST_MARKS < MOST_TRAY && STRIP_LAYING < MOST_TRAY && STRIP_MOST_PICTURE < MOST_ANSWER,
+               "room for plans and answers");
 
-static struct room input_room, plan_room, tray_room;
+static struct room input_room, plan_room, tray_room, size_room;
 static unsigned long compared[CALLS], failures;
 static struct vector v;
 
@@ -57,11 +59,21 @@ static size_t bytes_field(uint8_t *into) {
     return strcmp(text, "-") == 0 ? 0 : bytes_of(text, strlen(text), into, MOST_BYTES);
 }
 
+/* of a picture: two lines, and in each row a byte for each mark and for each line of 70 */
+static uint64_t picture_bytes(void) {
+    char head[64];
+    int length = snprintf(head, sizeof head, "P1\n%llu %llu\n", (unsigned long long)v.marks, (unsigned long long)v.height);
+    uint64_t bytes = (uint64_t)length + v.height * (v.marks + (v.marks + 69) / 70), room = STRIP_PICTURE(v.marks, v.height);
+    if (room < bytes || room - bytes > 5) bad_line("a picture has not the room that the header says");
+    return bytes;
+}
+
 /* the bytes of an answer, as the header states them */
 static uint64_t answer_bytes(void) {
     switch (v.call) {
     case WORD: return v.n;
     case PRINT: return v.marks;
+    case PICTURE: return picture_bytes();
     case LOOK:
     case SMUDGED: return STRIP_LAYING;
     }
@@ -75,7 +87,7 @@ static void answers_field(void) {
     v.answers = v.answer_length = 0;
     for (int more = 1; more; v.answers++) {
         size_t letters = strcmp(text, "-") == 0 ? 0 : strcspn(text, ",");
-        v.answer_length = bytes_of(text, letters, v.answer + v.answers * v.answer_length, MOST_BYTES - v.answers * v.answer_length);
+        v.answer_length = bytes_of(text, letters, v.answer + v.answers * v.answer_length, MOST_ANSWER - v.answers * v.answer_length);
         if (v.answer_length != length) bad_line("an answer is not as long as the header says");
         more = text[letters] == ',';
         text += letters + 1;
@@ -98,12 +110,13 @@ static void parse(char *line) {
     }
     if (of_plan || v.call == TURN || v.call == RANK || v.call == PLACE) v.input_length = bytes_field(v.input);
     else v.number = number_field();
-    if (v.call == PRINT) v.marks = number_field();
+    if (v.call == PRINT || v.call == PICTURE) v.marks = number_field();
+    if (v.call == PICTURE) v.height = number_field();
     v.refusal = (unsigned)number_field();
     answers_field();
 }
 
-static unsigned call(const struct lent *input, const struct lent *plan, const struct lent *tray) {
+static unsigned call(const struct lent *input, const struct lent *plan, const struct lent *size, const struct lent *tray) {
     switch (v.call) {
     case TURN: return turn_of(v.k, v.n, input->bytes, input->length, tray->bytes, tray->length);
     case RANK: return rank_of(v.k, v.n, input->bytes, input->length, tray->bytes, tray->length);
@@ -111,6 +124,7 @@ static unsigned call(const struct lent *input, const struct lent *plan, const st
     case MARK: return mark_at(v.k, v.n, v.number, tray->bytes, tray->length);
     case PLACE: return place_of(v.k, v.n, input->bytes, input->length, tray->bytes, tray->length);
     case PRINT: return print_marks(v.k, v.n, v.number, v.marks, tray->bytes, tray->length);
+    case PICTURE: return picture_of(v.k, v.n, v.number, v.marks, v.height, size->bytes, size->length, tray->bytes, tray->length);
     case LOOK: return look_up(plan->bytes, plan->length, input->bytes, input->length, tray->bytes, tray->length);
     case SMUDGED: return look_up_smudged(plan->bytes, plan->length, input->bytes, input->length, tray->bytes, tray->length);
     }
@@ -124,15 +138,24 @@ static int holds_one(const struct lent *tray) {
     return 0;
 }
 
-static void compare(size_t tray_length, unsigned long line) {
+/* whether the tray of a picture's size holds it, if there is one, and no other byte is touched */
+static int holds_size(const struct lent *size, unsigned refusal) {
+    uint8_t number[STRIP_NUMBER];
+    for (int i = 0; i < STRIP_NUMBER; i++) number[i] = (uint8_t)((uint64_t)v.answer_length >> 8 * (STRIP_NUMBER - 1 - i));
+    return holds(size, number, v.call == PICTURE && refusal == 0 ? STRIP_NUMBER : 0);
+}
+
+static void compare_sized(size_t tray_length, size_t size_length, unsigned long line) {
     int kind = (int)((compared[v.call] + line) % KINDS);
     struct lent input = lend_copy(input_room, v.input, v.input_length, kind);
     struct lent plan = lend_copy(plan_room, v.plan, v.plan_length, kind);
     struct lent tray = lend(tray_room, tray_length, kind);
-    unsigned refusal = v.refusal == 0 && tray_length < v.answer_length ? STRIP_TRAY_TOO_SMALL : v.refusal;
-    unsigned given = call(&input, &plan, &tray);
+    struct lent size = lend(size_room, size_length, kind);
+    int small = tray_length < v.answer_length || size_length < STRIP_NUMBER;
+    unsigned refusal = v.refusal == 0 && small ? STRIP_TRAY_TOO_SMALL : v.refusal;
+    unsigned given = call(&input, &plan, &size, &tray);
     int right = given == refusal && (refusal == 0 ? holds_one(&tray) : holds(&tray, v.answer, 0)) && holds(&input, v.input, v.input_length) &&
-                holds(&plan, v.plan, v.plan_length);
+                holds(&plan, v.plan, v.plan_length) && holds_size(&size, refusal);
     if (!right && failures++ < 20)
         printf("line %lu (%s), tray of %zu: number %u, expected %u%s\n", line, NAMES[v.call], tray_length, given, refusal,
                given == refusal ? ", but other bytes" : "");
@@ -140,19 +163,28 @@ static void compare(size_t tray_length, unsigned long line) {
     give_back(&input);
     give_back(&plan);
     give_back(&tray);
+    give_back(&size);
+}
+
+static void compare(size_t tray_length, unsigned long line) {
+    compare_sized(tray_length, STRIP_NUMBER, line);
 }
 
 /* refused ones with trays of any length, so that 6 comes after all others */
 static void compare_all(unsigned long line) {
     static const size_t lengths[] = {0, STRIP_NUMBER - 1, MOST_TRAY};
     if (v.refusal != 0) {
-        for (size_t i = 0; i < 3; i++) compare(lengths[i], line);
+        for (size_t i = 0; i < 3; i++) compare_sized(lengths[i], lengths[(i + line) % 3], line);
         return;
     }
     if (v.answer_length != 0) compare(v.answer_length - 1, line);
     compare(v.answer_length, line);
     if (v.call == LOOK || v.call == SMUDGED) compare(v.answer_length + 1, line);
     compare(v.answer_length + 3, line);
+    if (v.call != PICTURE) return;
+    compare_sized(v.answer_length, STRIP_NUMBER - 1, line);
+    compare_sized(v.answer_length - 1, 0, line);
+    compare_sized(v.answer_length, STRIP_NUMBER + 5, line);
 }
 
 int main(void) {
@@ -161,7 +193,8 @@ int main(void) {
     unsigned long lines = 0;
     input_room = make_room(MOST_BYTES);
     plan_room = make_room(MOST_BYTES);
-    tray_room = make_room(MOST_BYTES + 3);
+    tray_room = make_room(MOST_ANSWER + 3);
+    size_room = make_room(MOST_TRAY);
     while (getline(&line, &room, stdin) > 0) {
         lines++;
         parse(line);

@@ -4,7 +4,7 @@
     turn  K N WORD        REFUSAL ANSWER        mark  K N PLACE       REFUSAL ANSWER
     rank  K N WORD        REFUSAL ANSWER        print K N PLACE MARKS REFUSAL ANSWER
     word  K N INDEX       REFUSAL ANSWER        look  PLAN WINDOW     REFUSAL ANSWER
-    place K N WINDOW      REFUSAL ANSWER
+    place K N WINDOW      REFUSAL ANSWER        picture K N PLACE WIDTH HEIGHT REFUSAL ANSWER
     smudged PLAN WINDOW   REFUSAL ANSWER,ANSWER,..   any of the answers is right
 
 Bytes are written in hexadecimal, no bytes as "-". An optional argument is the most places of a small strip, of which all is printed.
@@ -53,6 +53,11 @@ def marks(k, n, start, count):
     print("print", k, n, start, count, fault, text(answer))
 
 
+def picture(k, n, start, width, height):
+    fault, answer = model.picture_of(k, n, start, width, height)
+    print("picture", k, n, start, width, height, fault, text(answer))
+
+
 def look(plan, window):
     fault, answer = model.look_up(plan, window)
     print("look", text(plan), text(window), fault, text(answer))
@@ -79,6 +84,7 @@ def cases_of_the_rules():
     marks(4, 1, 0, 4)
     marks(3, 2, 0, 9)
     marks(2, 4, 0, 16)
+    picture(2, 4, 4, 5, 2)
     for index in range(12):
         word(2, 6, index)
     for start in range(7, 11):
@@ -212,6 +218,29 @@ def part_of_strip(k, n, chance, many):
         word(k, n, value)
     word(k, n, 0)
     word(k, n, last + 1)
+
+
+# Pictures
+
+def pictures(chance):
+    """Widths that fill lines, and one more or less; up to the widest and the highest; round the end, more than once on a short strip."""
+    for n in (1, 2, 4, 7, 60):
+        places = 2**n
+        for start, width, height in product((0, places - 1), (1, 2, 69, 70, 71, 139, 140, 141, 210, 211), (1, 2, 3, 64)):
+            picture(2, n, start, width, height)
+        for _ in range(20):
+            picture(2, n, chance.randrange(places), chance.randint(1, 700), chance.randint(1, 9))
+    for n, start, width, height in ((60, 2**60 - 30000, 60000, 1), (60, 12345, 59999, 2), (16, 65535, 60000, 64), (60, 2**59, 59989, 64)):
+        picture(2, n, start, width, height)
+
+
+def picture_refusals():
+    """1, 12, 4 and 13: alone and together."""
+    strips = ((2, 4), (3, 4), (36, 11), (1, 4), (0, 0), (37, 4), (2, 0), (2, 61), (2**32 + 2, 4), (2, 2**32 + 4), (2**64 - 1, 4))
+    sizes = ((1, 1), (60000, 64), (0, 1), (1, 0), (60001, 1), (1, 65), (0, 0), (2**16 + 1, 1), (1, 2**8 + 1), (2**32 + 1, 1), (1, 2**32 + 1), (2**64 - 1, 2**64 - 1))
+    for (k, n), start, (width, height) in product(strips, (0, 15, 16, 2**60, 2**64 - 1), sizes):
+        if (k, n, width) != (2, 4, 60000) or start > 15:  # the largest file is drawn above
+            picture(k, n, start, width, height)
 
 
 # Refusals alone and together
@@ -457,6 +486,8 @@ def main():
     broken_among_500(chance)
     joints(chance, 16)
     large_joints(chance)
+    pictures(chance)
+    picture_refusals()
 
 
 if __name__ == "__main__":

@@ -21,7 +21,7 @@ pub enum Checked {
 }
 
 // A number in a tray has so many bytes.
-const NUMBER: usize = 8;
+pub const NUMBER: usize = 8;
 
 // Is there such a strip?
 pub fn check_strip(k: u64, n: u64) -> Checked

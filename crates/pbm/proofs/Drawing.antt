@@ -118,8 +118,11 @@ module _ {s : DS.Strip} {p c h : ℕ} (d : Drawable s p c h) where
       abbrev lent : List ℕ
       lent = take (end - r .head) (drop (r .head) T)
 
+      pub end-fits : end ≤ length T
+      end-fits = omega (arith, ends-there)
+
       lent-long : length lent ≡ h * length row
-      lent-long = mid-len (r .head) end T (omega (arith, ends-there)) ∙ omega (arith, ap (λ x. x * h) row-there, mul-comm (rowSize c) h, ap (λ x. h * x) long)
+      lent-long = mid-len (r .head) end T end-fits ∙ omega (arith, ap (λ x. x * h) row-there, mul-comm (rowSize c) h, ap (λ x. h * x) long)
 
       first : take (r .end - r .head) lent ≡ row
       first =
@@ -132,8 +135,8 @@ module _ {s : DS.Strip} {p c h : ℕ} (d : Drawable s p c h) where
       pub file-drawn : {rows : List ℕ} → rows ≡ extension (length lent) (take (r .end - r .head) lent) → putMid (r .head) (end - r .head) T rows ≡ over (picture (s .k) (s .n) p c h) b
       file-drawn {rows} e =
           let is : rows ≡ repeated h row = e ∙ ap₂ extension (lent-long ∙ sym (repeated-length h row)) first ∙ sym (extends-extension (omega (arith, long, d .width .0)) (extends-power h row)) in
-          let size : length rows ≡ end - r .head = ap length is ∙ repeated-length h row ∙ sym lent-long ∙ mid-len (r .head) end T (omega (arith, ends-there)) in
-          let a = adds-part T rows (r .head) end (omega arith) (omega (arith, ends-there)) size in
+          let size : length rows ≡ end - r .head = ap length is ∙ repeated-length h row ∙ sym lent-long ∙ mid-len (r .head) end T end-fits in
+          let a = adds-part T rows (r .head) end (omega arith) end-fits size in
           let P = putMid (r .head) (end - r .head) T rows in
           let past : r .end + (end - r .end) ≡ end = omega (arith, one-row, seam-before q) in
           let tail : drop end T ≡ drop end b =

@@ -69,6 +69,9 @@ head-length c h = omega (arith, length-append (decimal c) (32 ∷ (decimal h ++ 
 pub head-most : (c h : ℕ) → c ≤ 60000 → h ≤ 64 → length (headText c h) ≤ 12
 head-most c h m l = omega (arith, head-length c h, decimal-length 5 c (omega arith) (omega arith), decimal-length 2 h (omega arith) (omega arith))
 
+pub room : (k n p c h : ℕ) → 1 ≤ c → c ≤ 60000 → h ≤ 64 → length (picture k n p c h) ≤ 12 + h * rowSize c
+room k n p c h s m l = omega (arith, file-size k n p c h s, head-most c h m l)
+
 pub most : (k n p c h : ℕ) → c ≤ 60000 → h ≤ 64 → length (picture k n p c h) ≤ 3894924
 most k n p c h m l =
     omega (arith, file-length k n p c h, head-most c h m l, mul-le-mul l (row-most k n p c h m))

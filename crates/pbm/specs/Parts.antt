@@ -1,11 +1,12 @@
 -- What can be drawn, and a file in its parts: the head, and the row behind it, which is written several times.
 use mathlib.Core.Path.{_≡_}
 use mathlib.Core.List.{List, _++_}
-use Prim.Native.Nat.{ℕ, _≤_, _<_}
+use Prim.Native.Nat.{ℕ, _+_, _≤_, _<_}
 use lib.ListN.{length}
 use Rattle.shape.specs.declared.Strip as DS
 use Rattle.shape.specs.Shapes.{Shaped}
 use Rattle.texts.specs.Texts.{Adds}
+use Rattle.pbm.specs.Pictures.{rowSize}
 use Rattle.pbm.specs.declared.Parts as DP
 
 -- c marks from place p on in h rows; the marks of up to ten shades are digits
@@ -15,6 +16,10 @@ pub record Drawable (s : DS.Strip) (p c h : ℕ) : Type 0 where
   pub inside : p < s .size
   pub width : (1 ≤ c) × (c ≤ 60000)
   pub height : (1 ≤ h) × (h ≤ 64)
+
+-- bytes that hold any head and its row
+abbrev pub most : ℕ
+most = 12 + rowSize 60000
 
 -- both parts over a buffer's start
 pub record Parted (head row : List ℕ) (rows : ℕ) (before after : List ℕ) (r : DP.Parts) : Type 0 where

@@ -36,7 +36,7 @@ rowSize c = c + (c + 69) / 70
 abbrev pub fileSize : ℕ → ℕ → ℕ
 fileSize c h = length (headText c h) + h * rowSize c
 
--- Reading, by the format alone: a number up to the byte behind its digits, what stands behind that byte, and digits with all other bytes passed over
+-- Reading, by the format alone and not by what is written above: a number up to the byte behind its digits, what stands behind that byte, and digits with all other bytes passed over
 abbrev pub isDigit : ℕ → Bool
 isDigit b = leb 48 b && leb b 57
 
@@ -63,7 +63,7 @@ abbrev pub readPicture : List ℕ → Picture
 readPicture s =
     let a = drop 3 s in
     let b = behindNumber a in
-    record { plain = same (take 3 s) magic; width = numberAt 0 a; height = numberAt 0 b; marks = digitsIn (behindNumber b) }
+    record { plain = same (take 3 s) (80 ∷ 49 ∷ 10 ∷ []); width = numberAt 0 a; height = numberAt 0 b; marks = digitsIn (behindNumber b) }
 
 pub record Pictures : Type 0 where
   -- a row of at most 70 marks is one line; of a longer one the first 70 marks are a line, and the others follow as a row does
@@ -74,6 +74,8 @@ pub record Pictures : Type 0 where
   -- what is read of a picture is what was drawn
   pub back : (k n p c h : ℕ) → 2 ≤ k → k ≤ 10 → 1 ≤ n
       → readPicture (picture k n p c h) ≡ record { plain = true; width = c; height = h; marks = repeated h (marksFrom k n p c) }
+  -- a tray of 12 bytes for the head and so many for each row holds the file
+  pub room : (k n p c h : ℕ) → 1 ≤ c → c ≤ 60000 → h ≤ 64 → length (picture k n p c h) ≤ 12 + h * rowSize c
   -- no file of at most 60,000 marks in at most 64 rows is longer than that of so many
   pub most : (k n p c h : ℕ) → c ≤ 60000 → h ≤ 64 → length (picture k n p c h) ≤ 3894924
   pub largest : (k n p c h : ℕ) → c ≡ 60000 → h ≡ 64 → length (picture k n p c h) ≡ 3894924

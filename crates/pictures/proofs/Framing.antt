@@ -5,6 +5,7 @@ use mathlib.Core.Logic.{inl, inr}
 use Prim.Native.Nat.{ℕ, _^_, _≤_, _<_}
 use native.Mathlib.Omega.{arith}
 use lib.Dec.{eqb, leb}
+use lib.ListN.{length}
 use borrow.Author.Tests.{eqb-true, eq-eqb, ne-eqb, leb-true, leb-false, le-leb, lt-leb, not-false}
 use Rattle.theory.specs.Words.{firstOf, when}
 use Rattle.theory.specs.Strips.{stripFault}
@@ -16,7 +17,9 @@ use Rattle.calls.specs.declared.Checked.the-variants.{Strip}
 use Rattle.calls.specs.Refusals.{framed, pictureFault}
 use Rattle.calls.specs.Checks.{Checks}
 use Rattle.calls.proofs.Checks.{StripIs, strip-is, strip-size, passed}
+use Rattle.pbm.specs.Pictures.{picture, fileSize}
 use Rattle.pbm.specs.Parts.{Drawable}
+use Rattle.pbm.proofs.Rows.{file-size}
 
 -- width and height
 module _ (c h : ℕ) where
@@ -71,15 +74,21 @@ module _ (k n p c h : ℕ) where
         frame-in c h (not-false _ (when-none _ 13 (λ e. omega arith) frame)),
       )
 
-  -- the check, passed
-  module _ {a : Checked} {s : DS.Strip} (e : Checks (pictureFault k n p c h) k n a) (g : a ≡ Strip s) where
-    pub faultless : pictureFault k n p c h ≡ 0
-    faultless = passed (pictureFault k n p c h) k n e g .0
+  -- the check, passed: the picture can be drawn on the strip x
+  pub record Passed (x : DS.Strip) : Type 0 where
+    pub fine : pictureFault k n p c h ≡ 0
+    pub on : StripIs k n x
+    pub drawn : Drawable x p c h
+    pub long : length (picture k n p c h) ≡ fileSize c h
 
-    pub on-strip : StripIs k n s
-    on-strip = strip-is (pictureFault k n p c h) k n (λ z. first-none (stripFault k n) _ z .0) e g
-
-    pub drawable : Drawable s p c h
-    drawable =
-        let (two, inside, f) = none faultless in
-        record { shaped = on-strip .shaped; digits = omega (arith, two, on-strip .letters); inside = omega (arith, inside, strip-size on-strip); width = (f .some, f .wide); height = (f .row, f .high) }
+  pub checked : {a : Checked} {x : DS.Strip} → Checks (pictureFault k n p c h) k n a → a ≡ Strip x → Passed x
+  checked e g =
+      let (fine, _) = passed (pictureFault k n p c h) k n e g in
+      let on = strip-is (pictureFault k n p c h) k n (λ z. first-none (stripFault k n) _ z .0) e g in
+      let (two, inside, f) = none fine in
+      record {
+        fine = fine;
+        on = on;
+        drawn = record { shaped = on .shaped; digits = omega (arith, two, on .letters); inside = omega (arith, inside, strip-size on); width = (f .some, f .wide); height = (f .row, f .high) };
+        long = file-size k n p c h (f .some);
+      }

@@ -5,7 +5,7 @@ ghost use Prim.Native.Nat.{_≤_};
 ghost use lib.ListN.{length};
 ghost use Rattle.calls.specs.Refusals.{framed, pictureFault};
 ghost use Rattle.calls.specs.Checks.{Checks};
-ghost use Rattle.pbm.specs.Parts.{Parted};
+ghost use Rattle.pbm.specs.Parts.{Parted, most};
 ghost use Rattle.pictures.specs.Says.{PictureSays, BothSay};
 ghost use Rattle.pictures.specs.Requests.{headFor, rowFor, rowsFor};
 use calls::Checked;
@@ -20,10 +20,14 @@ const WIDEST: u64 = 60000;
 
 const HIGHEST: u64 = 64;
 
-// A number in a tray, and a request, have so many bytes.
-const NUMBER: usize = 8;
-
+// Bytes of a request, and where the place, the width and the height begin in it.
 const REQUEST: usize = 26;
+
+const PLACE: usize = 2;
+
+const WIDTH: usize = 10;
+
+const HEIGHT: usize = 18;
 
 // Are width and height those of a picture?
 fn is_framed(width: u64, height: u64) -> bool
@@ -101,7 +105,7 @@ pub fn picture_of(
         Checked::Refused(number) => number,
         Checked::Strip(strip) => {
             let total = pbm::size(width, height);
-            if size.len() < NUMBER {
+            if size.len() < calls::NUMBER {
                 return refusals::TRAY_TOO_SMALL;
             }
             if (tray.len() as u64) < total {
@@ -114,10 +118,10 @@ pub fn picture_of(
     }
 }
 
-// What is printed for a request, k and n as a byte each, then the place, the width and the height as 8: the head and one row over the buffer's start.
-// No parts, if it is not as long as a request or is refused.
+// What is printed for a request, which is k and n in a byte each, then the place, the width and the height in 8: the head and one row over the buffer's
+// start. No parts, if it has another length or is refused.
 pub fn parts(request: &[u8], out: &mut [u8]) -> Parts
-    requires { ⌜ 60870 ≤ length (now out) ⌝ }
+    requires { ⌜ most ≤ length (now out) ⌝ }
     ensures { λ r. ⌜ Parted (headFor (now (request .entry))) (rowFor (now (request .entry))) (rowsFor (now (request .entry))) (now (out .entry)) (now (out .exit)) r ⌝ }
 {
     let none = Parts {
@@ -130,9 +134,9 @@ pub fn parts(request: &[u8], out: &mut [u8]) -> Parts
     }
     let k = request[0] as u64;
     let n = request[1] as u64;
-    let place = numbers::get64(request, 2);
-    let width = numbers::get64(request, 10);
-    let height = numbers::get64(request, 18);
+    let place = numbers::get64(request, PLACE);
+    let width = numbers::get64(request, WIDTH);
+    let height = numbers::get64(request, HEIGHT);
     match check(k, n, place, width, height) {
         Checked::Refused(_) => none,
         Checked::Strip(strip) => pbm::begin(strip, place, width, height, out),

@@ -3,6 +3,8 @@
 //     w  k and n in 8 bytes each, the length of the lent tray in one, a word     is_lyndon, shortest_root, smallest_rotation, lyndon_count
 //     p  a plan                                                                  check_plan
 //     s  k, n and a place in 8 bytes each                                        start_cursor
+//     i  k, n, a place, a width and a height in 8 bytes each, the length of      print_picture
+//        the lent tray in 2
 //     c  a cursor: k, n, the 60 bytes of its word, long, place                   cursor_place, step, step_cursor, step_back
 // tests/replies.py makes asks, and the lines that must come.
 ghost use Prim.Native.Nat.{_+_, _≤_, _<_};
@@ -11,12 +13,14 @@ use calls::Value;
 use cursors::Cursor;
 use cursors::Stepped;
 
-// Bytes of an ask before what is asked, and before its word; of a start, of a cursor, and of a cursor's word.
+// Bytes of an ask before what is asked, and before its word; of a start, of a picture, of a cursor, and of a cursor's word.
 const HEAD: usize = 3;
 
 const BEFORE_WORD: usize = 17;
 
 const START_BYTES: usize = 24;
+
+const PICTURE_BYTES: usize = 42;
 
 const CURSOR_BYTES: usize = 64;
 
@@ -24,6 +28,9 @@ const HELD_BYTES: usize = 60;
 
 // Bytes of the tray, of which the first are lent: more than a word of a strip has.
 const TRAY_BYTES: usize = 64;
+
+// Bytes of the tray for a picture: some of them fit.
+const PAPER_BYTES: usize = 512;
 
 // A number, one more in its line.
 fn field(v: u64) {
@@ -55,6 +62,15 @@ fn valued(call: &[u8], answer: Value) {
     io::write_all(1, call);
     byte(answer.number);
     field(answer.value);
+    end();
+}
+
+// The line of a call that answers a value beside a tray: the whole tray, of which the first bytes were lent, stands behind.
+fn beside(call: &[u8], answer: Value, tray: &[u8]) {
+    io::write_all(1, call);
+    byte(answer.number);
+    field(answer.value);
+    bytes(tray);
     end();
 }
 
@@ -112,16 +128,12 @@ fn number(given: &[u8], at: usize) -> u64
     half(given, at) * 4294967296 + half(given, at + 4)
 }
 
-// The line of smallest_rotation: its number, its value, then the whole tray, of which the first bytes were lent.
+// smallest_rotation, in the tray's first bytes.
 fn rotated(k: u64, n: u64, word: &[u8], lent: usize, tray: &mut [u8])
     requires { ⌜ lent ≤ length (now tray) ⌝ }
 {
     let answer = words::smallest_rotation(k, n, word, &mut tray[..lent]);
-    io::write_all(1, b"smallest_rotation");
-    byte(answer.number);
-    field(answer.value);
-    bytes(tray);
-    end();
+    beside(b"smallest_rotation", answer, tray);
 }
 
 // The calls on a word, in a tray of 170s.
@@ -143,6 +155,31 @@ fn word_asked(ask: &[u8]) {
     let lent = wide(ask[16]) as usize;
     if lent <= TRAY_BYTES {
         word(number(ask, 0), number(ask, 8), &ask[BEFORE_WORD..], lent);
+    }
+}
+
+// print_picture, in the tray's first bytes.
+fn drawn(ask: &[u8], lent: usize, tray: &mut [u8])
+    requires { ⌜ (40 ≤ length (now ask)) × (lent ≤ length (now tray)) ⌝ }
+{
+    let k = number(ask, 0);
+    let n = number(ask, 8);
+    let place = number(ask, 16);
+    let width = number(ask, 24);
+    let height = number(ask, 32);
+    let answer = pictures::print_picture(k, n, place, width, height, &mut tray[..lent]);
+    beside(b"print_picture", answer, tray);
+}
+
+// An ask for a picture, in a tray of 170s.
+fn picture_asked(ask: &[u8]) {
+    if ask.len() < PICTURE_BYTES {
+        return;
+    }
+    let lent = size(ask, 40);
+    if lent <= PAPER_BYTES {
+        let mut tray = [170u8; PAPER_BYTES];
+        drawn(ask, lent, &mut tray);
     }
 }
 
@@ -203,6 +240,7 @@ fn answer(letter: u8, ask: &[u8]) {
         b'w' => word_asked(ask),
         b'p' => plan_asked(ask),
         b's' => start_asked(ask),
+        b'i' => picture_asked(ask),
         b'c' => cursor_asked(ask),
         _ => {}
     }

@@ -6,7 +6,7 @@ use borrow.Author.Needs.{needs}
 use Rattle.theory.specs.Strips.{marksFrom}
 use Rattle.pbm.specs.Pictures.{rowText, headText, fileSize}
 use Rattle.pbm.specs.Parts.{Drawable, Parted}
-use Rattle.pbm.proofs.Drawing.{one-fits, seam-before, rows-small, ends-there, row-lent, file-drawn}
+use Rattle.pbm.proofs.Drawing.{one-fits, seam-before, rows-small, ends-there, end-fits, row-lent, file-drawn}
 use Rattle.pbm.proofs.write.Statement.{statement}
 use Rattle.pbm.proofs.write.Tie as tie
 
@@ -43,7 +43,7 @@ part-extend-start : tie.Need-part-extend-start
 part-extend-start c = search needs
 
 part-extend-end : tie.Need-part-extend-end
-part-extend-end c = omega (arith, ends-there (drawable c) (parts c), file c, c .before .before .before .begin .kept .1 .1 .1 .1 .0)
+part-extend-end c = end-fits (drawable c) (parts c) (file c) (c .before .before .before .begin .kept .1 .1 .1 .1 .0)
 
 extend-requires : tie.Need-extend-requires
 extend-requires c κs = row-lent (drawable (c .before)) (parts (c .before)) (file (c .before)) (c .before .before .before .before .begin .kept .1 .1 .1 .1 .0)

@@ -10,9 +10,9 @@ use Rattle.calls.specs.declared.Checked.the-variants.{Strip}
 use Rattle.calls.specs.Refusals.{pictureFault}
 use Rattle.calls.proofs.Checks.{refused-by}
 use Rattle.pbm.specs.Pictures.{headText, rowSize}
-use Rattle.pbm.specs.Parts.{Drawable}
+use Rattle.pbm.specs.Parts.{most}
 use Rattle.pbm.proofs.Rows.{head-most}
-use Rattle.pictures.proofs.Framing.{faultless, on-strip, drawable}
+use Rattle.pictures.proofs.Framing.{Passed, checked}
 use Rattle.pictures.proofs.Requesting.{other-size, refused, parted}
 use Rattle.pictures.proofs.parts.Statement.{statement}
 use Rattle.pictures.proofs.parts.Tie as tie
@@ -68,17 +68,17 @@ module _ (c : Checked) where
   h = c .before .get643 .result
 
   module _ {x : DS.Strip} (e : c .check .result ≡ Strip x) where
-    fits : Drawable x p w h
-    fits = drawable (getD s 0 0) (getD s 1 0) p w h (c .check .ensures) e
+    known : Passed (getD s 0 0) (getD s 1 0) p w h x
+    known = checked (getD s 0 0) (getD s 1 0) p w h (c .check .ensures) e
 
-    room : length (headText w h) + rowSize w ≤ 60870
-    room = omega (arith, head-most w h (fits .width .1) (fits .height .1), fits .width .1)
+    room : length (headText w h) + rowSize w ≤ most
+    room = let d = known .drawn in omega (arith, head-most w h (d .width .1) (d .height .1), d .width .1)
 
 begin-requires : tie.Need-begin-requires
 begin-requires c κs =
     let at = c .before .before .before .before in
     let e = c .before .before .strip .given .1 in
-    (fits at e, omega (arith, room at e, at .before .before .before .before .before .before .before .before .before .pre))
+    (known at e .drawn, omega (arith, room at e, at .before .before .before .before .before .before .before .before .before .pre))
 
 returns-2 : tie.Need-returns-2
 returns-2 c =
@@ -91,13 +91,11 @@ same-length c = search needs
 
 returns-3 : tie.Need-returns-3
 returns-3 c =
-    let known = c .before .before .before .before in
-    let at = known .before .before .before in
-    let e = known .before .strip .given .1 in
+    let arm = c .before .before .before .before in
+    let at = arm .before .before .before in
+    let e = arm .before .strip .given .1 in
     parted (s at) (at .before .before .before .get64 .ensures) (at .before .before .get642 .ensures) (at .before .get643 .ensures) (omega arith)
-    (faultless (getD (s at) 0 0) (getD (s at) 1 0) (p at) (w at) (h at) (at .check .ensures) e)
-    (on-strip (getD (s at) 0 0) (getD (s at) 1 0) (p at) (w at) (h at) (at .check .ensures) e)
-    (c .before .before .begin .ensures)
+    (known at e .fine) (known at e .on) (c .before .before .begin .ensures)
 
 pub parts-spec : {M : Type 1} → statement M
 parts-spec =

@@ -1,15 +1,12 @@
 -- `print_picture` puts the file into the tray and answers its size; a refusal leaves the tray as it was, and its value is 0.
-use mathlib.Core.Path.{_≡_, refl, sym, _∙_}
-use Prim.Native.Nat.{ℕ}
+use mathlib.Core.Path.{refl, sym, _∙_}
 use native.Mathlib.Omega.{arith}
 use lib.ListN.{length}
 use borrow.Author.Needs.{needs}
 use Rattle.calls.specs.Refusals.{pictureFault}
 use Rattle.calls.proofs.Answers.{beside-refused-by, beside-small, beside-answer}
-use Rattle.pbm.specs.Pictures.{picture, fileSize}
-use Rattle.pbm.specs.Parts.{Drawable}
-use Rattle.pbm.proofs.Rows.{file-size}
-use Rattle.pictures.proofs.Framing.{faultless, on-strip, drawable}
+use Rattle.pbm.specs.Pictures.{picture}
+use Rattle.pictures.proofs.Framing.{Passed, checked}
 use Rattle.pictures.proofs.Answering.{drawn-on}
 use Rattle.pictures.proofs.print_picture.Statement.{statement}
 use Rattle.pictures.proofs.print_picture.Tie as tie
@@ -27,45 +24,27 @@ enum-known-strip c = search needs
 abbrev Known : Type 0
 Known = tie.After-known-told2
 
-module _ (c : Known) where
-  abbrev k : ℕ
-  k = c .before .before .before .before .before .args .k
-
-  abbrev n : ℕ
-  n = c .before .before .before .before .before .args .n
-
-  abbrev p : ℕ
-  p = c .before .before .before .before .before .args .place
-
-  abbrev w : ℕ
-  w = c .before .before .before .before .before .args .width
-
-  abbrev h : ℕ
-  h = c .before .before .before .before .before .args .height
-
-  fits : Drawable (c .before .strip .given .0 .0) p w h
-  fits = drawable k n p w h (c .before .before .before .check .ensures) (c .before .strip .given .1)
-
-  fine : pictureFault k n p w h ≡ 0
-  fine = faultless k n p w h (c .before .before .before .check .ensures) (c .before .strip .given .1)
-
-  long : length (picture k n p w h) ≡ fileSize w h
-  long = file-size k n p w h (fits .width .0)
+known : (c : Known) → let a = c .before .before .before .before .before .args in Passed (a .k) (a .n) (a .place) (a .width) (a .height) (c .before .strip .given .0 .0)
+known c =
+    let a = c .before .before .before .before .before .args in
+    checked (a .k) (a .n) (a .place) (a .width) (a .height) (c .before .before .before .check .ensures) (c .before .strip .given .1)
 
 size-requires : tie.Need-size-requires
-size-requires c κs = let d = fits c in (d .width .1, d .height .1)
+size-requires c κs = let d = known c .drawn in (d .width .1, d .height .1)
 
 returns : tie.Need-returns
 returns c =
     let size = c .before in
     let at = size .before in
-    beside-small (length (picture (k at) (n at) (p at) (w at) (h at))) (picture (k at) (n at) (p at) (w at) (h at)) (at .before .before .before .before .before .args .tray .now) (fine at) (omega (arith, long at, size .size .ensures)) (refl, refl) refl
+    let a = at .before .before .before .before .before .args in
+    let b = picture (a .k) (a .n) (a .place) (a .width) (a .height) in
+    beside-small (length b) b (a .tray .now) (known at .fine) (omega (arith, known at .long, size .size .ensures)) (refl, refl) refl
 
 write-requires : tie.Need-write-requires
 write-requires c κs =
     let size = c .before .before in
     let at = size .before in
-    (fits at, omega (arith, size .size .ensures))
+    (known at .drawn, omega (arith, size .size .ensures))
 
 returns-2 : tie.Need-returns-2
 returns-2 c =
@@ -81,10 +60,10 @@ returns-3 : tie.Need-returns-3
 returns-3 c =
     let size = c .before .before .before .before .before in
     let at = size .before in
-    let b = picture (k at) (n at) (p at) (w at) (h at) in
-    let on = on-strip (k at) (n at) (p at) (w at) (h at) (at .before .before .before .check .ensures) (at .before .strip .given .1) in
-    let tray = at .before .before .before .before .before .args .tray .now in
-    beside-answer b tray (fine at) (omega (arith, long at, size .size .ensures)) (size .size .ensures ∙ sym (long at)) (refl, refl) (drawn-on (k at) (n at) (p at) (w at) (h at) tray on (c .before .before .write .ensures))
+    let a = at .before .before .before .before .before .args in
+    let b = picture (a .k) (a .n) (a .place) (a .width) (a .height) in
+    beside-answer b (a .tray .now) (known at .fine) (omega (arith, known at .long, size .size .ensures)) (size .size .ensures ∙ sym (known at .long)) (refl, refl)
+    (drawn-on (known at) (a .tray .now) (c .before .before .write .ensures))
 
 pub print-picture-spec : {M : Type 1} → statement M
 print-picture-spec =

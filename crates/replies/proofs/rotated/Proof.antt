@@ -14,23 +14,11 @@ slice-aggregate-smallest-rotation c = let f = c .before .before .before in sym (
 smallest-rotation-requires : tie.Need-smallest-rotation-requires
 smallest-rotation-requires c κs = search needs
 
-slice-aggregate-write-all : tie.Need-slice-aggregate-write-all
-slice-aggregate-write-all c = search needs
+slice-aggregate-beside : tie.Need-slice-aggregate-beside
+slice-aggregate-beside c = search needs
 
-write-all-requires : tie.Need-write-all-requires
-write-all-requires c κs = search needs
-
-byte-requires : tie.Need-byte-requires
-byte-requires c κs = search needs
-
-field-requires : tie.Need-field-requires
-field-requires c κs = search needs
-
-bytes-requires : tie.Need-bytes-requires
-bytes-requires c κs = search needs
-
-end-requires : tie.Need-end-requires
-end-requires c κs = search needs
+beside-requires : tie.Need-beside-requires
+beside-requires c κs = search needs
 
 same-length : tie.Need-same-length
 same-length c = search needs
@@ -45,11 +33,7 @@ rotated-spec =
     slice-relend-prefix-smallest-rotation
     slice-aggregate-smallest-rotation
     smallest-rotation-requires
-    slice-aggregate-write-all
-    write-all-requires
-    byte-requires
-    field-requires
-    bytes-requires
-    end-requires
+    slice-aggregate-beside
+    beside-requires
     same-length
     returns)
