@@ -6,15 +6,14 @@
 #include <stdlib.h>
 #include <time.h>
 
-enum { TURN, RANK, PLACE, WORD, MARK, LOOK, SMUDGED, PRINT, CALLS };
+enum { TURN, RANK, PLACE, WORD, MARK, LOOK, SMUDGED, PRINT, PICTURE, CALLS };
 enum { LIBRARY, PLAIN, BEST, COPY, MAKERS };
-enum { INPUTS = 64, ROUNDS = 15, PRINTED = 1 << 20 };
-static const char *const NAMES[CALLS] = {"turn_of", "rank_of", "place_of", "word_of", "mark_at", "look_up", "look_up_smudged", "print_marks"};
+enum { INPUTS = 64, ROUNDS = 15, PRINTED = 1 << 20, WIDTH = STRIP_MOST_WIDTH, HEIGHT = STRIP_MOST_HEIGHT, FILE_BYTES = STRIP_MOST_PICTURE };
+static const char *const NAMES[CALLS] = {"turn_of", "rank_of", "place_of", "word_of", "mark_at", "look_up", "look_up_smudged", "print_marks", "picture_of"};
 static const uint64_t STRIPS[][2] = {{2, 60}, {4, 30}, {36, 11}};
 
 static uint64_t k, n, numbers[INPUTS];
-static uint8_t words[INPUTS][MOST], plan[4 + 16 * SECTIONS], printed[MAKERS][PRINTED];
-
+static uint8_t words[INPUTS][MOST], plan[4 + 16 * SECTIONS], printed[MAKERS][FILE_BYTES];
 
 static uint64_t draw(void) {
     static uint64_t seed = 1;
@@ -53,7 +52,8 @@ static void draw_inputs(int call) {
         case MARK: return name##mark_at(k, n, numbers[i], tray, MOST);                                                                  \
         case LOOK: return name##look_up(plan, sizeof plan, words[i], n, tray, MOST);                                                    \
         case SMUDGED: return name##look_up_smudged(plan, sizeof plan, words[i], n, tray, MOST);                                         \
-        default: return name##print_marks(k, n, numbers[i], PRINTED, printed[maker], PRINTED);                                          \
+        case PRINT: return name##print_marks(k, n, numbers[i], PRINTED, printed[maker], PRINTED);                                       \
+        default: return name##picture_of(k, n, numbers[i], WIDTH, HEIGHT, tray, MOST, printed[maker], FILE_BYTES);                      \
         }
 
 static uint8_t ask(int maker, int call, int i, uint8_t *tray) {
@@ -62,9 +62,13 @@ static uint8_t ask(int maker, int call, int i, uint8_t *tray) {
         ASK(plain_, PLAIN)
         ASK(best_, BEST)
     }
-    memcpy(printed[COPY], printed[LIBRARY], PRINTED);
+    memcpy(printed[COPY], printed[LIBRARY], call == PRINT ? PRINTED : FILE_BYTES);
     __asm__ volatile("" : : "r"(printed[COPY]) : "memory");
     return 0;
+}
+
+static int prints(int call) {
+    return call == PRINT || call == PICTURE;
 }
 
 static void check(int call, int inputs) {
@@ -73,7 +77,7 @@ static void check(int call, int inputs) {
         for (int maker = LIBRARY; maker <= BEST; maker++) given[maker] = ask(maker, call, i, trays[maker]);
         for (int maker = PLAIN; maker <= BEST; maker++)
             if (given[maker] != given[LIBRARY] || memcmp(trays[maker], trays[LIBRARY], MOST) != 0 ||
-                (call == PRINT && memcmp(printed[maker], printed[LIBRARY], PRINTED) != 0)) {
+                (prints(call) && memcmp(printed[maker], printed[LIBRARY], FILE_BYTES) != 0)) {
                 fprintf(stderr, "bench: %s on (%d, %d), input %d: answers differ\n", NAMES[call], (int)k, (int)n, i);
                 exit(1);
             }
@@ -101,7 +105,7 @@ static double pass(int maker, int call, int inputs) {
 
 static void measure(int call) {
     double least[MAKERS];
-    int inputs = call == PRINT ? 4 : INPUTS, makers = call == PRINT ? MAKERS : COPY;
+    int inputs = prints(call) ? 4 : INPUTS, makers = prints(call) ? MAKERS : COPY;
     draw_inputs(call);
     check(call, inputs);
     for (int round = 0; round < ROUNDS; round++)
@@ -110,7 +114,7 @@ static void measure(int call) {
             if (round == 0 || time < least[maker]) least[maker] = time;
         }
     printf("%s %d %d %.4g %.4g ", NAMES[call], (int)k, (int)n, least[PLAIN] / least[LIBRARY], least[BEST] / least[LIBRARY]);
-    if (call == PRINT) printf("%.4g\n", least[COPY] / least[LIBRARY]);
+    if (prints(call)) printf("%.4g\n", least[COPY] / least[LIBRARY]);
     else printf("-\n");
     fflush(stdout);
 }
@@ -120,7 +124,7 @@ int main(void) {
         for (size_t s = 0; s < sizeof STRIPS / sizeof *STRIPS; s++) {
             k = STRIPS[s][0];
             n = STRIPS[s][1];
-            measure(call);
+            if (call != PICTURE || k == 2) measure(call);
         }
     }
     return 0;

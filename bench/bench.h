@@ -14,6 +14,8 @@ enum { MOST = 60, SECTIONS = 500 };
     uint8_t name##_mark_at(uint64_t k, uint64_t n, uint64_t place, uint8_t *tray, size_t tray_len);                                    \
     uint8_t name##_place_of(uint64_t k, uint64_t n, const uint8_t *window, size_t window_len, uint8_t *tray, size_t tray_len);         \
     uint8_t name##_print_marks(uint64_t k, uint64_t n, uint64_t place, uint64_t marks, uint8_t *tray, size_t tray_len);                \
+    uint8_t name##_picture_of(uint64_t k, uint64_t n, uint64_t place, uint64_t width, uint64_t height, uint8_t *size, size_t size_len,  \
+                              uint8_t *tray, size_t tray_len);                                                                          \
     uint8_t name##_look_up(const uint8_t *plan, size_t plan_len, const uint8_t *window, size_t window_len, uint8_t *tray, size_t tray_len); \
     uint8_t name##_look_up_smudged(const uint8_t *plan, size_t plan_len, const uint8_t *window, size_t window_len, uint8_t *tray, size_t tray_len)
 CALLS_OF(plain);
@@ -44,6 +46,14 @@ static inline uint8_t word_fault(uint64_t k, uint64_t n, const uint8_t *word, si
 static inline uint8_t place_fault(uint64_t k, uint64_t n, uint64_t place) {
     uint64_t places = places_of(k, n);
     return places == 0 ? 1 : place >= places ? 4 : 0;
+}
+
+static inline uint8_t picture_fault(uint64_t k, uint64_t n, uint64_t place, uint64_t width, uint64_t height) {
+    uint8_t fault = place_fault(k, n, place);
+    if (fault == 1) return 1;
+    if (k != 2) return 12;
+    if (fault != 0) return fault;
+    return width < 1 || width > STRIP_MOST_WIDTH || height < 1 || height > STRIP_MOST_HEIGHT ? 13 : 0;
 }
 
 static inline uint64_t lyndon_count(uint64_t k, uint64_t n) {

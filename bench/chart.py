@@ -15,6 +15,9 @@ Before it is measured, all answers are compared. Ratios only; on a busy machine 
   For a cursor's step (`bench/strides.c`, called from no C): the same tests and steps, a million on each strip.
 - **memcpy**: copying as many bytes as were printed.
 
+A picture has 60,000 marks in 64 rows, the most that there may be; document 004 has none, so the column beside it stands for its marks, written
+a byte at a time.
+
 Plans have 500 sections; those for look_up are welded in pairs, and half of its windows cross a joint. A smudged window has two unread marks,
 and hardly any filling is laid, so that all are tried: 4, 16 and 1,296 on the three strips.
 

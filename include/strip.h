@@ -1,26 +1,27 @@
-/* Position strips: ranks of Lyndon words, marks and places on a strip, places in a laying plan.
+/* Position strips: ranks of Lyndon words, marks and places on a strip, pictures of it, places in a laying plan.
 
    A strip of k shades and windows of n marks joins, in dictionary order, all Lyndon words whose length divides n. It has k^n marks, at
    places 0 to k^n - 1, and goes round: after the last comes the first. Every window of n marks is read at exactly one place.
 
    Words and windows are bytes, one a mark, from 0 to k - 1. A tray is a buffer that the caller lends for the answer. Each call returns 0
    and has then put its answer over the first bytes of the tray, or it returns one of the numbers below and has written nothing. Bytes of
-   the tray behind the answer are never touched. A number in a tray has its highest byte first.
+   a tray behind the answer are never touched. A number in a tray has its highest byte first.
 
    A call may come with any numbers and with any bytes in its slices; if several refusals apply, the first in the order
-   7, 1, 12, 8, 2, 11, 3, 4, 13, 5, 9, 6 is given. No call here gives 10, a lost cursor. What the caller must promise, since C cannot check it: each
-   pointer is valid for its length (a null pointer only with length 0), and no tray overlaps another slice. The calls keep no
-   state and may run in several threads at once, each with its own tray.
+   7, 1, 12, 8, 2, 11, 3, 4, 13, 5, 9, 6 is given. No call here gives 10, a lost cursor. What the caller must promise, since C cannot check
+   it: each pointer is valid for its length (a null pointer only with length 0), and no tray overlaps another slice. The calls keep no state
+   and may run in several threads at once, each with its own trays.
 
    For x86-64 Linux only. The Rattle kit rattle-kit-5b (logic 064da1ca440f63e7) builds the library with `rt staticlib strip`; link it with
 
        gcc -O2 -Iinclude host.c target/staticlib/libstrip.a -o host
 
-   Of the C library it needs memcpy and memset, and of the stack about 60 kB in mark_at and print_marks, at most 34 kB in the others. On a
-   2.6 GHz machine and the strip (2, 60), rank_of, place_of and look_up take some 2 us (look_up 3 us with 500 sections), turn_of some 0.1 us,
-   word_of, mark_at and print_marks some 70 to 110 us, and each mark printed a few ns more. The turn of a word that repeats itself, or has a long
-   run of its smallest mark, takes up to 1.5 us, and its place up to 4 us. Shorter windows take less. look_up_smudged looks for 2 or 4 places
-   on that strip, for up to 1,296 with 36 shades, which take some 0.5 ms. */
+   Of the C library it needs memcpy and memset, and of the stack about 60 kB in mark_at, print_marks and picture_of, at most 34 kB in the
+   others. On a 2.6 GHz machine and the strip (2, 60), rank_of, place_of and look_up take some 2 us (look_up 3 us with 500 sections), turn_of
+   some 0.1 us, word_of, mark_at and print_marks some 70 to 110 us, and each mark printed a few ns more; picture_of as print_marks, and 0.1 ms
+   more for the largest file. The turn of a word that repeats itself, or has a long run of its smallest mark, takes up to 1.5 us, and its
+   place up to 4 us. Shorter windows take less. look_up_smudged looks for 2 or 4 places on that strip, for up to 1,296 with 36 shades, which
+   take some 0.5 ms. */
 #ifndef STRIP_H
 #define STRIP_H
 #include <stddef.h>
