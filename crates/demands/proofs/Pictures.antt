@@ -7,7 +7,7 @@ use native.Mathlib.Omega.{arith}
 use lib.Dec.{ltb}
 use lib.ListN.{length, take, drop}
 use lib.Seq.{take-at, drop-at, take-take}
-use borrow.Author.Tests.{le-ltb}
+use borrow.Author.Tests.{le-ltb, le-leb}
 use Rattle.theory.specs.Words.{firstOf, when, repeated}
 use Rattle.theory.specs.Strips.{admitted}
 use Rattle.theory.specs.Plans.{be}
@@ -17,12 +17,12 @@ use Rattle.calls.specs.Refusals.{pictureFault}
 use Rattle.marks.specs.Says.{PrintSays}
 use Rattle.pbm.specs.declared.Parts as DP
 use Rattle.pbm.specs.Pictures.{picture, fileSize, readPicture}
-use Rattle.pbm.specs.Parts.{Parted}
+use Rattle.pbm.specs.Parts.{partsRoom, Parted}
 use Rattle.pbm.proofs.Rows.{file-size, most}
 use Rattle.pbm.proofs.Reading.{back}
 use Rattle.pbm.proofs.Drawing.{seam-before}
 use Rattle.pictures.specs.Says.{PictureSays, BothSay}
-use Rattle.pictures.specs.Requests.{headFor, rowFor, rowsFor, pictureFor}
+use Rattle.pictures.specs.Requests.{headFor, rowFor, rowsFor, pictureFor, PartsSay}
 use Rattle.pictures.proofs.Requesting.{by-rows}
 use Rattle.demands.proofs.Faults.{picture-faultless}
 use Rattle.demands.proofs.Trays.{into-fine, beside-fine, tray-back}
@@ -58,9 +58,10 @@ module _ (n p c h : ℕ) (a : admitted 2 n ≡ true) (l : p < 2 ^ n) (some : 1 �
       (number, told ∙ size, ap₂ take told is ∙ take-at file _ (length file) refl)
 
 -- the parts that are told
-pub picture-by-rows : (s b t : List ℕ) (r : DP.Parts) → Parted (headFor s) (rowFor s) (rowsFor s) b t r
+pub picture-by-rows : (s b t : List ℕ) (r : DP.Parts) → partsRoom ≤ length b → PartsSay s b t r
     → take (r .head) t ++ repeated (r .rows) (drop (r .head) (take (r .end) t)) ≡ pictureFor s
-picture-by-rows s b t r q =
+picture-by-rows s b t r room e =
+    let q : Parted (headFor s) (rowFor s) (rowsFor s) b t r = rw (le-leb partsRoom (length b) room) at e in
     let stands : take (r .end) t ≡ headFor s ++ rowFor s = q .adds .stands in
     let head : take (r .head) t ≡ headFor s =
     sym (take-take (r .head) (r .end) t (seam-before q)) ∙ ap (take (r .head)) stands ∙ take-at (headFor s) (rowFor s) (r .head) (sym (q .seam)) in

@@ -21,9 +21,9 @@ use Rattle.ranking.specs.Says.{ManySays, RankSays, WordSays}
 use Rattle.marks.specs.Says.{MarkSays, PlaceSays, PrintSays}
 use Rattle.pbm.specs.declared.Parts as DP
 use Rattle.pbm.specs.Pictures.{picture, fileSize, readPicture, Pictures}
-use Rattle.pbm.specs.Parts.{Parted}
+use Rattle.pbm.specs.Parts.{partsRoom}
 use Rattle.pictures.specs.Says.{PictureSays, BothSay}
-use Rattle.pictures.specs.Requests.{headFor, rowFor, rowsFor, pictureFor}
+use Rattle.pictures.specs.Requests.{pictureFor, PartsSay}
 use Rattle.lookups.specs.Says.{answerSize, LookupSays, SmudgedSays}
 use Rattle.cursors.specs.declared.Cursor as DC
 use Rattle.cursors.specs.declared.Started as DS
@@ -104,7 +104,7 @@ pub record Demands : Type 0 where
       → 8 ≤ length s → fileSize c h ≤ length t → BothSay 2 n p c h s s′ t t′ r
       → (r ≡ 0) × (be 0 8 s′ ≡ fileSize c h) × (take (be 0 8 s′) t′ ≡ picture 2 n p c h)
   -- stripprint: the head and as many rows, as its parts are told, are the file that the request asks for; nothing, if it asks for none
-  pub picture-by-rows : (s b t : List ℕ) (r : DP.Parts) → Parted (headFor s) (rowFor s) (rowsFor s) b t r
+  pub picture-by-rows : (s b t : List ℕ) (r : DP.Parts) → partsRoom ≤ length b → PartsSay s b t r
       → take (r .head) t ++ repeated (r .rows) (drop (r .head) (take (r .end) t)) ≡ pictureFor s
   -- Cursors: a start gives a cursor without fault on the place; refused, one that is zero in every field
   pub started : (k n p : ℕ) (r : DS.Started) → admitted k n ≡ true → p < k ^ n → StartSays k n p r

@@ -18,8 +18,8 @@ pub record Drawable (s : DS.Strip) (p c h : ℕ) : Type 0 where
   pub height : (1 ≤ h) × (h ≤ 64)
 
 -- bytes that hold any head and its row
-abbrev pub most : ℕ
-most = 12 + rowSize 60000
+abbrev pub partsRoom : ℕ
+partsRoom = 12 + rowSize 60000
 
 -- both parts over a buffer's start
 pub record Parted (head row : List ℕ) (rows : ℕ) (before after : List ℕ) (r : DP.Parts) : Type 0 where

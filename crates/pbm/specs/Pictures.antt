@@ -36,7 +36,8 @@ rowSize c = c + (c + 69) / 70
 abbrev pub fileSize : ℕ → ℕ → ℕ
 fileSize c h = length (headText c h) + h * rowSize c
 
--- Reading, by the format alone and not by what is written above: a number up to the byte behind its digits, what stands behind that byte, and digits with all other bytes passed over
+-- Reading, by the format alone and not by what is written above: a number up to the byte behind its digits, what stands behind that byte, and digits with
+-- all other bytes passed over
 abbrev pub isDigit : ℕ → Bool
 isDigit b = leb 48 b && leb b 57
 

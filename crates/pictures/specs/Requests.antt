@@ -4,13 +4,15 @@ use mathlib.Core.Path.{_≡_}
 use mathlib.Core.Bool.{Bool, _&&_}
 use mathlib.Core.List.{List, [], _++_}
 use Prim.Native.Nat.{ℕ}
-use lib.Dec.{eqb}
+use lib.Dec.{eqb, leb}
 use lib.ListN.{length, getD}
 use Rattle.theory.specs.Words.{pick, repeated}
 use Rattle.theory.specs.Strips.{marksFrom}
 use Rattle.theory.specs.Plans.{be}
 use Rattle.calls.specs.Refusals.{pictureFault}
+use Rattle.pbm.specs.declared.Parts as DP
 use Rattle.pbm.specs.Pictures.{rowText, headText, picture}
+use Rattle.pbm.specs.Parts.{partsRoom, Parted}
 
 -- k, n, then the place, the width and the height, each number with its highest byte first
 pub record Request : Type 0 where
@@ -41,6 +43,12 @@ rowsFor s = pick (wanted s) (request s .height) 0
 
 abbrev pub pictureFor : List ℕ → List ℕ
 pictureFor s = let q = request s in pick (wanted s) (picture (q .shades) (q .marks) (q .place) (q .width) (q .height)) []
+
+-- what is told of a request: its parts over a buffer's start; none, if the buffer does not hold any head and row
+abbrev pub PartsSay : List ℕ → List ℕ → List ℕ → DP.Parts → Type 0
+PartsSay s before after r =
+    let fits = leb partsRoom (length before) in
+    Parted (pick fits (headFor s) []) (pick fits (rowFor s) []) (pick fits (rowsFor s) 0) before after r
 
 -- the head, then the rows, are the file
 abbrev pub By-rows : Type 0

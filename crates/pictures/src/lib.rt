@@ -1,13 +1,10 @@
 // Calls on pictures of a strip of two shades: the file whole, in a tray, and in parts, for a program that prints it. A faulty argument gets its
 // number from the table of refusals, and every tray is then as it was.
 ghost use mathlib.Core.Path.{_≡_};
-ghost use Prim.Native.Nat.{_≤_};
-ghost use lib.ListN.{length};
 ghost use Rattle.calls.specs.Refusals.{framed, pictureFault};
 ghost use Rattle.calls.specs.Checks.{Checks};
-ghost use Rattle.pbm.specs.Parts.{Parted, most};
 ghost use Rattle.pictures.specs.Says.{PictureSays, BothSay};
-ghost use Rattle.pictures.specs.Requests.{headFor, rowFor, rowsFor};
+ghost use Rattle.pictures.specs.Requests.{PartsSay};
 use calls::Checked;
 use calls::Value;
 use calls::refusals;
@@ -119,16 +116,18 @@ pub fn picture_of(
 }
 
 // What is printed for a request, which is k and n in a byte each, then the place, the width and the height in 8: the head and one row over the buffer's
-// start. No parts, if it has another length or is refused.
+// start. No parts, if it has another length or is refused, or the buffer has fewer than pbm::MOST bytes.
 pub fn parts(request: &[u8], out: &mut [u8]) -> Parts
-    requires { ⌜ most ≤ length (now out) ⌝ }
-    ensures { λ r. ⌜ Parted (headFor (now (request .entry))) (rowFor (now (request .entry))) (rowsFor (now (request .entry))) (now (out .entry)) (now (out .exit)) r ⌝ }
+    ensures { λ r. ⌜ PartsSay (now (request .entry)) (now (out .entry)) (now (out .exit)) r ⌝ }
 {
     let none = Parts {
         head: 0,
         end: 0,
         rows: 0,
     };
+    if out.len() < pbm::MOST {
+        return none;
+    }
     if request.len() != REQUEST {
         return none;
     }

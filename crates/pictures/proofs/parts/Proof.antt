@@ -1,4 +1,4 @@
--- `parts` reads a request; refused or of another size, it has none.
+-- `parts` reads a request; refused, of another size, or without room, it has none.
 use mathlib.Core.Path.{_≡_}
 use mathlib.Core.List.{List}
 use Prim.Native.Nat.{ℕ, _+_, _≤_}
@@ -10,15 +10,18 @@ use Rattle.calls.specs.declared.Checked.the-variants.{Strip}
 use Rattle.calls.specs.Refusals.{pictureFault}
 use Rattle.calls.proofs.Checks.{refused-by}
 use Rattle.pbm.specs.Pictures.{headText, rowSize}
-use Rattle.pbm.specs.Parts.{most}
+use Rattle.pbm.specs.Parts.{partsRoom}
 use Rattle.pbm.proofs.Rows.{head-most}
 use Rattle.pictures.proofs.Framing.{Passed, checked}
-use Rattle.pictures.proofs.Requesting.{other-size, refused, parted}
+use Rattle.pictures.proofs.Requesting.{no-room, other-size, refused, parted}
 use Rattle.pictures.proofs.parts.Statement.{statement}
 use Rattle.pictures.proofs.parts.Tie as tie
 
 returns : tie.Need-returns
-returns c = let a = c .before .before .before .args in other-size (a .request .now) (a .out .now) (c .if1 .taken)
+returns c = let a = c .before .before .before .args in no-room (a .request .now) (a .out .now) (omega arith)
+
+returns-2 : tie.Need-returns-2
+returns-2 c = let a = c .before .before .before .before .args in other-size (a .request .now) (a .out .now) (c .if2 .taken)
 
 shared-slice-read-k : tie.Need-shared-slice-read-k
 shared-slice-read-k c = search needs
@@ -56,7 +59,10 @@ Checked = tie.After-check
 
 module _ (c : Checked) where
   abbrev s : List ℕ
-  s = c .before .before .before .before .before .before .before .before .before .args .request .now
+  s = c .before .before .before .before .before .before .before .before .before .before .args .request .now
+
+  abbrev b : List ℕ
+  b = c .before .before .before .before .before .before .before .before .before .before .args .out .now
 
   abbrev p : ℕ
   p = c .before .before .before .get64 .result
@@ -67,34 +73,37 @@ module _ (c : Checked) where
   abbrev h : ℕ
   h = c .before .get643 .result
 
+  holds : partsRoom ≤ length b
+  holds = omega arith
+
   module _ {x : DS.Strip} (e : c .check .result ≡ Strip x) where
     known : Passed (getD s 0 0) (getD s 1 0) p w h x
     known = checked (getD s 0 0) (getD s 1 0) p w h (c .check .ensures) e
 
-    room : length (headText w h) + rowSize w ≤ most
+    room : length (headText w h) + rowSize w ≤ partsRoom
     room = let d = known .drawn in omega (arith, head-most w h (d .width .1) (d .height .1), d .width .1)
 
 begin-requires : tie.Need-begin-requires
 begin-requires c κs =
     let at = c .before .before .before .before in
     let e = c .before .before .strip .given .1 in
-    (known at e .drawn, omega (arith, room at e, at .before .before .before .before .before .before .before .before .before .pre))
+    (known at e .drawn, omega (arith, room at e, holds at))
 
-returns-2 : tie.Need-returns-2
-returns-2 c =
+returns-3 : tie.Need-returns-3
+returns-3 c =
     let at = c .before .before in
     let (is, some) = refused-by (pictureFault (getD (s at) 0 0) (getD (s at) 1 0) (p at) (w at) (h at)) (getD (s at) 0 0) (getD (s at) 1 0) (at .check .ensures) (c .enum-told .given .1) in
-    refused (s at) (at .before .before .before .get64 .ensures) (at .before .before .get642 .ensures) (at .before .get643 .ensures) _ is some
+    refused (s at) (b at) (at .before .before .before .get64 .ensures) (at .before .before .get642 .ensures) (at .before .get643 .ensures) is some
 
 same-length : tie.Need-same-length
 same-length c = search needs
 
-returns-3 : tie.Need-returns-3
-returns-3 c =
+returns-4 : tie.Need-returns-4
+returns-4 c =
     let arm = c .before .before .before .before in
     let at = arm .before .before .before in
     let e = arm .before .strip .given .1 in
-    parted (s at) (at .before .before .before .get64 .ensures) (at .before .before .get642 .ensures) (at .before .get643 .ensures) (omega arith)
+    parted (s at) (b at) (at .before .before .before .get64 .ensures) (at .before .before .get642 .ensures) (at .before .get643 .ensures) (holds at) (omega arith)
     (known at e .fine) (known at e .on) (c .before .before .begin .ensures)
 
 pub parts-spec : {M : Type 1} → statement M
@@ -102,6 +111,7 @@ parts-spec =
     tie.close
     (tie.spec
     returns
+    returns-2
     shared-slice-read-k
     cast-k
     shared-slice-read-n
@@ -113,6 +123,6 @@ parts-spec =
     enum-told
     enum-known-strip
     begin-requires
-    returns-2
+    returns-3
     same-length
-    returns-3)
+    returns-4)
