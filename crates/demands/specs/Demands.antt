@@ -1,5 +1,5 @@
 -- The three demands as one record: the theorems about the definitions, and what follows for the bytes that the calls leave in trays.
--- A call's promise says what it gives for every argument (specs/Says of words, marks and lookups; Cursors of cursors): here it stands as a premise.
+-- A call's promise says what it gives for every argument (specs/Says of words, ranking, marks, pictures and lookups; Cursors of cursors): here it stands as a premise.
 use mathlib.Core.Path.{_≡_}
 use mathlib.Core.Bool.{Bool, true, not}
 use mathlib.Core.List.{List, [], _++_}
