@@ -32,9 +32,8 @@ use Rattle.words.specs.Says.{RotationSays, TurnSays}
 use Rattle.ranking.specs.Says.{RankSays, WordSays}
 use Rattle.marks.specs.Says.{MarkSays, PlaceSays, PrintSays}
 use Rattle.pbm.specs.Pictures.{picture, fileSize}
-use Rattle.pbm.proofs.Rows.{file-size}
 use Rattle.pictures.specs.Says.{PictureSays, BothSay}
-use Rattle.pictures.proofs.Framing.{none}
+use Rattle.pictures.proofs.Framing.{file-long}
 use Rattle.lookups.specs.Says.{answerAt, answerSize, LookupSays, Picked, SmudgedSays}
 use Rattle.demands.specs.Trays.{Keeps, Trays}
 
@@ -157,9 +156,6 @@ print-answers k n p c t t′ r e =
     answers (marksFrom k n p c) (λ _. long) (print-into (placeFault k n p) c (marksFrom k n p c) t t′ r long e)
 
 -- a picture's file; with the tray of its size, a size that does not fit counts as a fault
-file-long : (k n p c h : ℕ) → pictureFault k n p c h ≡ 0 → length (picture k n p c h) ≡ fileSize c h
-file-long k n p c h z = let (_, _, f) = none k n p c h z in file-size k n p c h (f .some)
-
 pub picture-answers : (k n p c h : ℕ) (t t′ : List ℕ) (r : DV.Value) → PictureSays k n p c h t t′ r → Answers (fileSize c h) (pictureFault k n p c h) t t′ (r .number)
 picture-answers k n p c h t t′ r e = answers (picture k n p c h) (file-long k n p c h) (e .0)
 

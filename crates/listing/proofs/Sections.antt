@@ -10,7 +10,7 @@ use lib.Seq.{length-take-le, take-all, take-suc}
 use Rattle.theory.specs.Words.{marksOk}
 use Rattle.theory.specs.Strips.{strip, marksFrom, window}
 use Rattle.theory.specs.Plans.{Section, noSection, nthS}
-use Rattle.theory.proofs.Letters.{marks-in, in-marks}
+use Rattle.theory.proofs.Letters.{marks-up}
 use Rattle.theory.proofs.Reading.{letters-length}
 use Rattle.theory.proofs.Rings.{strip-marks}
 use Rattle.shape.specs.declared.Strip as DS
@@ -39,7 +39,7 @@ module _ {s : DS.Strip} (h : Shaped s) (x : Section) {v : List ℕ} (e : v ≡ m
       let l = limits h in
       let w = window (s .k) (s .n) (x .offset) in
       let ok = strip-marks (s .k) (s .n) (x .offset) (s .n) (l .two) (l .some) in
-      rw first-window (in-marks 36 w (λ a i. omega (arith, l .most, marks-in (s .k) w ok a i)))
+      rw first-window (marks-up (s .k) 36 w (l .most) ok)
 
   pub section-text : (i : ℕ)
       → ((((decimal i ++ (32 ∷ [])) ++ (decimal (x .offset) ++ (32 ∷ []))) ++ (decimal (x .long) ++ (32 ∷ []))) ++ glyphs v) ++ (10 ∷ []) ≡ sectionLine (s .k) (s .n) i x

@@ -11,7 +11,7 @@ use borrow.Rule.Slice.PartMut.{putMid, postOf, post-is, mid-len, same-len-mid}
 use Rattle.theory.specs.Words.{marksOk, repeated}
 use Rattle.theory.specs.Steps.{extension}
 use Rattle.theory.specs.Strips.{strip, marksFrom}
-use Rattle.theory.proofs.Letters.{marks-in, in-marks}
+use Rattle.theory.proofs.Letters.{marks-up}
 use Rattle.theory.proofs.Powers.{repeated-length, extends-power, extends-extension}
 use Rattle.theory.proofs.Reading.{letters-length}
 use Rattle.theory.proofs.Rings.{strip-marks}
@@ -38,7 +38,7 @@ module _ {s : DS.Strip} (h : Shaped s) (ten : s .k ≤ 10) (p c : ℕ) where
   marks = marksFrom (s .k) (s .n) p c
 
   digits : marksOk 10 marks ≡ true
-  digits = let l = limits h in in-marks 10 marks (λ a i. omega (arith, marks-in (s .k) marks (strip-marks (s .k) (s .n) p c (l .two) (l .some)) a i))
+  digits = let l = limits h in marks-up (s .k) 10 marks ten (strip-marks (s .k) (s .n) p c (l .two) (l .some))
 
   -- marks put over the last c bytes of a buffer that the row will fill
   module _ (some : 1 ≤ c) (out : List ℕ) (fits : length out ≡ rowSize c) {last : List ℕ}
@@ -87,7 +87,7 @@ module _ {s : DS.Strip} {p c h : ℕ} (d : Drawable s p c h) where
 
   -- the whole file, with the row repeated
   module _ {b T : List ℕ} {r : DP.Parts} (q : Parted (headText c h) row h b T r) where
-    pub row-there : r .end - r .head ≡ rowSize c
+    row-there : r .end - r .head ≡ rowSize c
     row-there = omega (arith, q .adds .ends, q .seam, length-append (headText c h) row, long)
 
     pub rows-small : (r .end - r .head) * h ≤ 3894912
@@ -98,7 +98,7 @@ module _ {s : DS.Strip} {p c h : ℕ} (d : Drawable s p c h) where
     pub ends-there : r .head + (r .end - r .head) * h ≡ fileSize c h
     ends-there = omega (arith, q .seam, ap (λ x. x * h) row-there, mul-comm (rowSize c) h)
 
-    pub one-row : r .end - r .head ≤ (r .end - r .head) * h
+    one-row : r .end - r .head ≤ (r .end - r .head) * h
     one-row = le-mul-of-pos-right (r .end - r .head) (d .height .0)
 
     -- the buffer from the seam on

@@ -8,7 +8,7 @@ use borrow.Author.Tests.{le-leb, lt-ltb}
 use Rattle.theory.specs.Words.{repeated, marksOk}
 use Rattle.theory.specs.Strips.{marksFrom}
 use Rattle.theory.proofs.Base.{and-in, upto, over, split}
-use Rattle.theory.proofs.Letters.{marks-in, in-marks, marks-head, marks-tail}
+use Rattle.theory.proofs.Letters.{marks-up, marks-head, marks-tail}
 use Rattle.theory.proofs.Rings.{strip-marks}
 use Rattle.texts.specs.Texts.{decimal, glyph, glyphs, fields}
 use Rattle.texts.proofs.Decimals.{decimal-small, decimal-large}
@@ -66,7 +66,7 @@ back k n p c h two ten some =
     let w = marksFrom k n p c in
     let rows = repeated h (rowText w) in
     let tail = decimal h ++ (10 ∷ rows) in
-    let ok : marksOk 10 w ≡ true = in-marks 10 w (λ a i. omega (arith, marks-in k w (strip-marks k n p c two some) a i)) in
+    let ok : marksOk 10 w ≡ true = marks-up k 10 w ten (strip-marks k n p c two some) in
     let lines : fields (decimal c) (decimal h ∷ []) ++ rows ≡ decimal c ++ (32 ∷ tail) = simp append-assoc in
     let behind : behindNumber (fields (decimal c) (decimal h ∷ []) ++ rows) ≡ tail = ap behindNumber lines ∙ read-number c (32 ∷ tail) .1 in
     let width : numberAt 0 (fields (decimal c) (decimal h ∷ []) ++ rows) ≡ c = ap (numberAt 0) lines ∙ read-number c (32 ∷ tail) .0 in

@@ -65,7 +65,7 @@ module _ (k n p c h : ℕ) where
     pub left : p < k ^ n → rest ≡ when (not (framed c h)) 13
     left l = rw (eq-eqb k 2 two, lt-leb (k ^ n) p l)
 
-  pub none : pictureFault k n p c h ≡ 0 → (k ≡ 2) × (p < k ^ n) × Frame c h
+  none : pictureFault k n p c h ≡ 0 → (k ≡ 2) × (p < k ^ n) × Frame c h
   none z =
       let (shades, more) = first-none (when (not (eqb k 2)) 12) _ (first-none (stripFault k n) _ z .1) in
       let (place, frame) = first-none (when (leb (k ^ n) p) 4) _ more in (
@@ -73,6 +73,9 @@ module _ (k n p c h : ℕ) where
         leb-false (k ^ n) p (when-none _ 4 (λ e. omega arith) place),
         frame-in c h (not-false _ (when-none _ 13 (λ e. omega arith) frame)),
       )
+
+  pub file-long : pictureFault k n p c h ≡ 0 → length (picture k n p c h) ≡ fileSize c h
+  file-long z = let (_, _, f) = none z in file-size k n p c h (f .some)
 
   -- the check, passed: the picture can be drawn on the strip x
   pub record Passed (x : DS.Strip) : Type 0 where
@@ -90,5 +93,5 @@ module _ (k n p c h : ℕ) where
         fine = fine;
         on = on;
         drawn = record { shaped = on .shaped; digits = omega (arith, two, on .letters); inside = omega (arith, inside, strip-size on); width = (f .some, f .wide); height = (f .row, f .high) };
-        long = file-size k n p c h (f .some);
+        long = file-long fine;
       }

@@ -3,7 +3,8 @@ use mathlib.Core.Path.{_≡_, refl, sym, subst}
 use mathlib.Core.Bool.{true}
 use mathlib.Core.List.{List, [], _∷_, _++_}
 use mathlib.Core.Logic.{inl, inr}
-use Prim.Native.Nat.{ℕ, zero, suc, _<_}
+use Prim.Native.Nat.{ℕ, zero, suc, _≤_, _<_}
+use native.Mathlib.Omega.{arith}
 use lib.Dec.{ltb}
 use lib.ListN.{length, getD, take, drop, replicate}
 use borrow.Author.Tests.{ltb-true, lt-ltb}
@@ -21,6 +22,10 @@ marks-in k (b ∷ w) h a (there i) = marks-in k w (and-r (ltb b k) (marksOk k w)
 pub in-marks : (k : ℕ) (w : List ℕ) → ((a : ℕ) → In a w → a < k) → marksOk k w ≡ true
 in-marks k [] h = refl
 in-marks k (a ∷ w) h = and-in (lt-ltb a k (h a (here refl))) (in-marks k w (λ b i. h b (there i)))
+
+-- letters below k are below any larger number
+pub marks-up : (k m : ℕ) (w : List ℕ) → k ≤ m → marksOk k w ≡ true → marksOk m w ≡ true
+marks-up k m w h ok = in-marks m w (λ a i. omega (arith, marks-in k w ok a i))
 
 -- parts of a word: whatever has only letters of the word
 pub marks-part : (k : ℕ) (u w : List ℕ) → ((a : ℕ) → In a u → In a w) → marksOk k w ≡ true → marksOk k u ≡ true
