@@ -10,7 +10,8 @@ use Rattle.theory.specs.Strips.{admitted, stripFault}
 use Rattle.calls.specs.Refusals.{theWordFault, indexFault, placeFault, pictureFault}
 use Rattle.calls.proofs.Checks.{place-fine}
 use Rattle.ranking.proofs.Indexes.{index-fine}
-use Rattle.pictures.proofs.Framing.{Frame, frame-out, left}
+use Rattle.pbm.specs.Parts.{Frame}
+use Rattle.pictures.proofs.Framing.{frame-out, left}
 
 pub strip-faultless : (k n : ℕ) → admitted k n ≡ true → stripFault k n ≡ 0
 strip-faultless k n a = rw a refl

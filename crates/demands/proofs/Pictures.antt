@@ -17,7 +17,7 @@ use Rattle.calls.specs.Refusals.{pictureFault}
 use Rattle.marks.specs.Says.{PrintSays}
 use Rattle.pbm.specs.declared.Parts as DP
 use Rattle.pbm.specs.Pictures.{picture, fileSize, readPicture}
-use Rattle.pbm.specs.Parts.{partsRoom, Parted}
+use Rattle.pbm.specs.Parts.{Frame, partsRoom, Parted}
 use Rattle.pbm.proofs.Rows.{file-size, most}
 use Rattle.pbm.proofs.Reading.{back}
 use Rattle.pbm.proofs.Drawing.{seam-before}
@@ -29,15 +29,15 @@ use Rattle.demands.proofs.Trays.{into-fine, beside-fine, tray-back}
 use Rattle.demands.proofs.Marks.{printed}
 
 -- what can be drawn on a strip of two shades
-module _ (n p c h : ℕ) (a : admitted 2 n ≡ true) (l : p < 2 ^ n) (some : 1 ≤ c) (wide : c ≤ 60000) (row : 1 ≤ h) (high : h ≤ 64) where
+module _ (n p c h : ℕ) (a : admitted 2 n ≡ true) (l : p < 2 ^ n) (frame : Frame c h) where
   abbrev file : List ℕ
   file = picture 2 n p c h
 
   fine : pictureFault 2 n p c h ≡ 0
-  fine = picture-faultless n p c h a l (record { some = some; wide = wide; row = row; high = high })
+  fine = picture-faultless n p c h a l frame
 
   size : length file ≡ fileSize c h
-  size = file-size 2 n p c h some
+  size = file-size 2 n p c h (frame .some)
 
   pub picture-back : (t t′ u u′ : List ℕ) (r : DV.Value) (q : ℕ) → fileSize c h ≤ length t → c ≤ length u → PictureSays 2 n p c h t t′ r → PrintSays 2 n p c u u′ q
       → (r .number ≡ 0) × (r .value ≡ fileSize c h) × (q ≡ 0)
@@ -54,7 +54,7 @@ module _ (n p c h : ℕ) (a : admitted 2 n ≡ true) (l : p < 2 ^ n) (some : 1 �
   picture-both s s′ t t′ r x y e =
       let room : firstOf (pictureFault 2 n p c h) (when (ltb (length s) 8) 6) ≡ 0 = rw (fine, le-ltb (length s) 8 x) in
       let (number, is) = into-fine (firstOf (pictureFault 2 n p c h) (when (ltb (length s) 8) 6)) file t room (omega (arith, size)) (e .0) in
-      let told : be 0 8 s′ ≡ length file = tray-back (length file) s (omega (arith, most 2 n p c h wide high)) (rw number at e .1) in
+      let told : be 0 8 s′ ≡ length file = tray-back (length file) s (omega (arith, most 2 n p c h (frame .wide) (frame .high))) (rw number at e .1) in
       (number, told ∙ size, ap₂ take told is ∙ take-at file _ (length file) refl)
 
 -- the parts that are told

@@ -21,7 +21,7 @@ use Rattle.ranking.specs.Says.{ManySays, RankSays, WordSays}
 use Rattle.marks.specs.Says.{MarkSays, PlaceSays, PrintSays}
 use Rattle.pbm.specs.declared.Parts as DP
 use Rattle.pbm.specs.Pictures.{picture, fileSize, readPicture, Pictures}
-use Rattle.pbm.specs.Parts.{partsRoom}
+use Rattle.pbm.specs.Parts.{Frame, partsRoom}
 use Rattle.pictures.specs.Says.{PictureSays, BothSay}
 use Rattle.pictures.specs.Requests.{pictureFor, PartsSay}
 use Rattle.lookups.specs.Says.{answerSize, LookupSays, SmudgedSays}
@@ -95,12 +95,12 @@ pub record Demands : Type 0 where
   -- Pictures: the file's lines, its size, and that what is read of it is what was drawn
   pub pictures : Pictures
   -- print_picture writes the file and answers its size; its digits, read back, are the marks that print_marks writes, in every row
-  pub picture-back : (n p c h : ℕ) (t t′ u u′ : List ℕ) (r : DV.Value) (q : ℕ) → admitted 2 n ≡ true → p < 2 ^ n → 1 ≤ c → c ≤ 60000 → 1 ≤ h → h ≤ 64
+  pub picture-back : (n p c h : ℕ) (t t′ u u′ : List ℕ) (r : DV.Value) (q : ℕ) → admitted 2 n ≡ true → p < 2 ^ n → Frame c h
       → fileSize c h ≤ length t → c ≤ length u → PictureSays 2 n p c h t t′ r → PrintSays 2 n p c u u′ q
       → (r .number ≡ 0) × (r .value ≡ fileSize c h) × (q ≡ 0)
       × (readPicture (take (r .value) t′) ≡ record { plain = true; width = c; height = h; marks = repeated h (take c u′) })
   -- picture_of writes the same file, and its size into the other tray
-  pub picture-both : (n p c h : ℕ) (s s′ t t′ : List ℕ) (r : ℕ) → admitted 2 n ≡ true → p < 2 ^ n → 1 ≤ c → c ≤ 60000 → 1 ≤ h → h ≤ 64
+  pub picture-both : (n p c h : ℕ) (s s′ t t′ : List ℕ) (r : ℕ) → admitted 2 n ≡ true → p < 2 ^ n → Frame c h
       → 8 ≤ length s → fileSize c h ≤ length t → BothSay 2 n p c h s s′ t t′ r
       → (r ≡ 0) × (be 0 8 s′ ≡ fileSize c h) × (take (be 0 8 s′) t′ ≡ picture 2 n p c h)
   -- stripprint: the head and as many rows, as its parts are told, are the file that the request asks for; nothing, if it asks for none

@@ -73,11 +73,11 @@ module _ {s : DS.Strip} {p c h : ℕ} (d : Drawable s p c h) where
   row = rowText (marksFrom (s .k) (s .n) p c)
 
   long : length row ≡ rowSize c
-  long = row-length (s .k) (s .n) p c h (d .width .0)
+  long = row-length (s .k) (s .n) p c h (d .frame .some)
 
   -- where the file fits, so do its head and one row
   pub one-fits : {m : ℕ} → fileSize c h ≤ m → length (headText c h) + rowSize c ≤ m
-  one-fits g = omega (arith, g, le-mul-of-pos-right (rowSize c) (d .height .0), mul-comm (rowSize c) h)
+  one-fits g = omega (arith, g, le-mul-of-pos-right (rowSize c) (d .frame .row), mul-comm (rowSize c) h)
 
   pub both-parts : {b T x : List ℕ} {e r : ℕ} → Adds b 0 (headText c h) T e → length T ≡ length b → length (headText c h) + rowSize c ≤ length b → r ≡ rowSize c → x ≡ row
       → Parted (headText c h) row h b (putMid e (e + r - e) T x) (record { head = e; end = e + r; rows = h })
@@ -92,14 +92,14 @@ module _ {s : DS.Strip} {p c h : ℕ} (d : Drawable s p c h) where
 
     pub rows-small : (r .end - r .head) * h ≤ 3894912
     rows-small =
-        let few : r .end - r .head ≤ 60858 = omega (arith, row-there, d .width .1) in
-        mul-le-mul few (d .height .1)
+        let few : r .end - r .head ≤ 60858 = omega (arith, row-there, d .frame .wide) in
+        mul-le-mul few (d .frame .high)
 
     pub ends-there : r .head + (r .end - r .head) * h ≡ fileSize c h
     ends-there = omega (arith, q .seam, ap (λ x. x * h) row-there, mul-comm (rowSize c) h)
 
     one-row : r .end - r .head ≤ (r .end - r .head) * h
-    one-row = le-mul-of-pos-right (r .end - r .head) (d .height .0)
+    one-row = le-mul-of-pos-right (r .end - r .head) (d .frame .row)
 
     -- the buffer from the seam on
     parted : T ≡ headText c h ++ (row ++ drop (r .end) T)
@@ -130,16 +130,16 @@ module _ {s : DS.Strip} {p c h : ℕ} (d : Drawable s p c h) where
           ∙ take-at row (drop (r .end) T) (r .end - r .head) (long ∙ sym row-there)
 
       pub row-lent : (1 ≤ r .end - r .head) × (r .end - r .head ≤ length lent)
-      row-lent = (omega (arith, row-there, d .width .0), omega (arith, lent-long, one-row, ap (λ x. x * h) row-there, mul-comm (rowSize c) h, ap (λ x. h * x) long))
+      row-lent = (omega (arith, row-there, d .frame .some), omega (arith, lent-long, one-row, ap (λ x. x * h) row-there, mul-comm (rowSize c) h, ap (λ x. h * x) long))
 
       pub file-drawn : {rows : List ℕ} → rows ≡ extension (length lent) (take (r .end - r .head) lent) → putMid (r .head) (end - r .head) T rows ≡ over (picture (s .k) (s .n) p c h) b
       file-drawn {rows} e =
-          let is : rows ≡ repeated h row = e ∙ ap₂ extension (lent-long ∙ sym (repeated-length h row)) first ∙ sym (extends-extension (omega (arith, long, d .width .0)) (extends-power h row)) in
+          let is : rows ≡ repeated h row = e ∙ ap₂ extension (lent-long ∙ sym (repeated-length h row)) first ∙ sym (extends-extension (omega (arith, long, d .frame .some)) (extends-power h row)) in
           let size : length rows ≡ end - r .head = ap length is ∙ repeated-length h row ∙ sym lent-long ∙ mid-len (r .head) end T end-fits in
           let a = adds-part T rows (r .head) end (omega arith) end-fits size in
           let P = putMid (r .head) (end - r .head) T rows in
           let past : r .end + (end - r .end) ≡ end = omega (arith, one-row, seam-before q) in
           let tail : drop end T ≡ drop end b =
           subst (λ x. drop x T ≡ drop x b) past (sym (drop-drop (end - r .end) (r .end) T) ∙ ap (drop (end - r .end)) (q .adds .behind) ∙ drop-drop (end - r .end) (r .end) b) in
-          let all : end ≡ length (picture (s .k) (s .n) p c h) = ends-there ∙ sym (file-size (s .k) (s .n) p c h (d .width .0)) in
+          let all : end ≡ length (picture (s .k) (s .n) p c h) = ends-there ∙ sym (file-size (s .k) (s .n) p c h (d .frame .some)) in
           sym (take-append-drop end P) ∙ ap₂ _++_ (a .stands ∙ ap₂ _++_ front is) (a .behind ∙ tail) ∙ ap (λ x. picture (s .k) (s .n) p c h ++ drop x b) all

@@ -1,4 +1,4 @@
--- What can be drawn, and a file in its parts: the head, and the row behind it, which is written several times.
+-- What can be drawn, how large, and a file in its parts: the head, and the row behind it, which is written several times.
 use mathlib.Core.Path.{_≡_}
 use mathlib.Core.List.{List, _++_}
 use Prim.Native.Nat.{ℕ, _+_, _≤_, _<_}
@@ -9,13 +9,19 @@ use Rattle.texts.specs.Texts.{Adds}
 use Rattle.pbm.specs.Pictures.{rowSize}
 use Rattle.pbm.specs.declared.Parts as DP
 
+-- the width and height of a picture
+pub record Frame (c h : ℕ) : Type 0 where
+  pub some : 1 ≤ c
+  pub wide : c ≤ 60000
+  pub row : 1 ≤ h
+  pub high : h ≤ 64
+
 -- c marks from place p on in h rows; the marks of up to ten shades are digits
 pub record Drawable (s : DS.Strip) (p c h : ℕ) : Type 0 where
   pub shaped : Shaped s
   pub digits : s .k ≤ 10
   pub inside : p < s .size
-  pub width : (1 ≤ c) × (c ≤ 60000)
-  pub height : (1 ≤ h) × (h ≤ 64)
+  pub frame : Frame c h
 
 -- bytes that hold any head and its row
 abbrev pub partsRoom : ℕ

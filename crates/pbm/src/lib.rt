@@ -9,7 +9,7 @@ ghost use Rattle.buffers.specs.Buffers.{over};
 ghost use Rattle.shape.specs.Shapes.{Shaped};
 ghost use Rattle.texts.specs.Texts.{Adds};
 ghost use Rattle.pbm.specs.Pictures.{rowSize, fileSize, rowText, headText, picture};
-ghost use Rattle.pbm.specs.Parts.{Parted, Drawable};
+ghost use Rattle.pbm.specs.Parts.{Frame, Drawable, Parted};
 use shape::Strip;
 
 // A line has so many digits.
@@ -77,7 +77,7 @@ fn row_size(width: u64) -> u64
 
 // How many bytes the file has.
 pub fn size(width: u64, height: u64) -> u64
-    requires { ⌜ (width ≤ 60000) × (height ≤ 64) ⌝ }
+    requires { ⌜ Frame width height ⌝ }
     ensures { λ r. ⌜ r ≡ fileSize width height ⌝ }
 {
     let mut room = [0u8; HEAD];

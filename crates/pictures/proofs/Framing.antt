@@ -18,18 +18,12 @@ use Rattle.calls.specs.Refusals.{framed, pictureFault}
 use Rattle.calls.specs.Checks.{Checks}
 use Rattle.calls.proofs.Checks.{StripIs, strip-is, strip-size, passed}
 use Rattle.pbm.specs.Pictures.{picture, fileSize}
-use Rattle.pbm.specs.Parts.{Drawable}
+use Rattle.pbm.specs.Parts.{Frame, Drawable}
 use Rattle.pbm.proofs.Rows.{file-size}
 
 -- width and height
 module _ (c h : ℕ) where
-  pub record Frame : Type 0 where
-    pub some : 1 ≤ c
-    pub wide : c ≤ 60000
-    pub row : 1 ≤ h
-    pub high : h ≤ 64
-
-  pub frame-in : framed c h ≡ true → Frame
+  frame-in : framed c h ≡ true → Frame c h
   frame-in t =
       let t₁ = and-r (leb 1 c) _ t in
       let t₂ = and-r (leb c 60000) _ t₁ in
@@ -40,11 +34,11 @@ module _ (c h : ℕ) where
         high = leb-true h 64 (and-r (leb 1 h) _ t₂);
       }
 
-  pub frame-out : Frame → framed c h ≡ true
+  pub frame-out : Frame c h → framed c h ≡ true
   frame-out f = and-in (le-leb 1 c (f .some)) (and-in (le-leb c 60000 (f .wide)) (and-in (le-leb 1 h (f .row)) (le-leb h 64 (f .high))))
 
   -- one limit broken is enough
-  pub unframed : ¬ Frame → false ≡ framed c h
+  pub unframed : ¬ Frame c h → false ≡ framed c h
   unframed n = elim (test (framed c h)) [ inl t ↦ absurd (n (frame-in t)) | inr t ↦ sym t ]
 
   pub high-left : 1 ≤ c → c ≤ 60000 → 1 ≤ h → leb h 64 ≡ framed c h
@@ -92,6 +86,6 @@ module _ (k n p c h : ℕ) where
       record {
         fine = fine;
         on = on;
-        drawn = record { shaped = on .shaped; digits = omega (arith, two, on .letters); inside = omega (arith, inside, strip-size on); width = (f .some, f .wide); height = (f .row, f .high) };
+        drawn = record { shaped = on .shaped; digits = omega (arith, two, on .letters); inside = omega (arith, inside, strip-size on); frame = f };
         long = file-long fine;
       }

@@ -12,7 +12,7 @@ slice-aggregate-put-head : tie.Need-slice-aggregate-put-head
 slice-aggregate-put-head c = search needs
 
 put-head-requires : tie.Need-put-head-requires
-put-head-requires c κs = let f = c .before in head-most (f .args .width) (f .args .height) (f .pre .0) (f .pre .1)
+put-head-requires c κs = let f = c .before in head-most (f .args .width) (f .args .height) (f .pre .wide) (f .pre .high)
 
 row-size-requires : tie.Need-row-size-requires
 row-size-requires c κs = search needs
@@ -21,13 +21,13 @@ row-size-requires c κs = search needs
 rows : (c : tie.After-row-size) → c .before .before .before .before .args .height * c .row-size .result ≤ 3894912
 rows c =
     let f = c .before .before .before .before in
-    let few : c .row-size .result ≤ 60858 = omega (arith, c .row-size .ensures, f .pre .0) in
-    mul-le-mul (f .pre .1) few
+    let few : c .row-size .result ≤ 60858 = omega (arith, c .row-size .ensures, f .pre .wide) in
+    mul-le-mul (f .pre .high) few
 
 head : (c : tie.After-row-size) → c .before .before .put-head .result ≤ 12
 head c =
     let f = c .before .before .before .before in
-    omega (arith, c .before .before .put-head .ensures .ends, head-most (f .args .width) (f .args .height) (f .pre .0) (f .pre .1))
+    omega (arith, c .before .before .put-head .ensures .ends, head-most (f .args .width) (f .args .height) (f .pre .wide) (f .pre .high))
 
 mul-result : tie.Need-mul-result
 mul-result c = omega (arith, rows c)

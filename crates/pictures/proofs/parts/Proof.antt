@@ -81,7 +81,7 @@ module _ (c : Checked) where
     known = checked (getD s 0 0) (getD s 1 0) p w h (c .check .ensures) e
 
     room : length (headText w h) + rowSize w ≤ partsRoom
-    room = let d = known .drawn in omega (arith, head-most w h (d .width .1) (d .height .1), d .width .1)
+    room = let d = known .drawn in omega (arith, head-most w h (d .frame .wide) (d .frame .high), d .frame .wide)
 
 begin-requires : tie.Need-begin-requires
 begin-requires c κs =

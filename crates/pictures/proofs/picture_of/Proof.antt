@@ -27,7 +27,7 @@ known c =
     checked (a .k) (a .n) (a .place) (a .width) (a .height) (c .before .before .before .check .ensures) (c .before .strip .given .1)
 
 size-requires : tie.Need-size-requires
-size-requires c κs = let d = known c .drawn in (d .width .1, d .height .1)
+size-requires c κs = known c .drawn .frame
 
 returns : tie.Need-returns
 returns c =
