@@ -1,7 +1,7 @@
 -- Each call's number is the first of `order` that applies: the record Refusals.
 use mathlib.Core.Path.{_≡_, sym, _∙_, ap}
-use mathlib.Core.Bool.{true, false, _&&_, _||_, not, false≢true}
-use mathlib.Core.List.{List, _++_}
+use mathlib.Core.Bool.{Bool, true, false, _&&_, _||_, not, false≢true}
+use mathlib.Core.List.{List, [], _∷_, _++_}
 use mathlib.Core.Logic.{inl, inr, _↔_, _≢_}
 use Prim.Native.Nat.{ℕ, suc, _-_, _^_, _<_}
 use native.Mathlib.Omega.{arith}
@@ -20,7 +20,7 @@ use Rattle.theory.proofs.Rings.{one-place, admitted-range}
 use Rattle.theory.proofs.Faults.{first-assoc, first-either, word-fine}
 use Rattle.theory.proofs.Laying as theory
 use Rattle.theory.proofs.Erasures.{fitting-in, in-fitting}
-use Rattle.calls.specs.Order.{given}
+use Rattle.calls.specs.Order.{rule, given}
 use Rattle.calls.specs.Refusals.{theWordFault, indexFault, placeFault, framed, pictureFault}
 use Rattle.calls.proofs.Order.{given-none, given-first}
 use Rattle.pbm.specs.Pictures.{fileSize}
@@ -47,13 +47,13 @@ place-tray k n p t m = place-tray-number (not (admitted k n)) (leb (k ^ n) p) (l
 index-tray : (k n i : ℕ) (t : List ℕ) (m : ℕ) → firstOf (indexFault k n i) (when (ltb (length t) m) 6) ≡ given (indexRules k n i ++ trayRules t m)
 index-tray k n i t m = index-tray-number (not (admitted k n)) (eqb i 0 || ltb (howMany k n) i) (ltb (length t) m)
 
-picture-tray : (k n p c h : ℕ) (t : List ℕ) (m : ℕ) → firstOf (pictureFault k n p c h) (when (ltb (length t) m) 6) ≡ given (pictureRules k n p c h ++ trayRules t m)
-picture-tray k n p c h t m = picture-tray-number (not (admitted k n)) (not (eqb k 2)) (leb (k ^ n) p) (not (framed c h)) (ltb (length t) m)
+picture-tray : (k n p c h : ℕ) (small : Bool) → firstOf (pictureFault k n p c h) (when small 6) ≡ given (pictureRules k n p c h ++ (rule 6 small ∷ []))
+picture-tray k n p c h = picture-tray-number (not (admitted k n)) (not (eqb k 2)) (leb (k ^ n) p) (not (framed c h))
 
 picture-trays : (k n p c h : ℕ) (s t : List ℕ) (m : ℕ) → firstOf (firstOf (pictureFault k n p c h) (when (ltb (length s) 8) 6)) (when (ltb (length t) m) 6) ≡ given (pictureRules k n p c h ++ traysRules s 8 t m)
 picture-trays k n p c h s t m =
     first-assoc (pictureFault k n p c h) (when (ltb (length s) 8) 6) (when (ltb (length t) m) 6) ∙ ap (firstOf (pictureFault k n p c h)) (first-either (ltb (length s) 8) (ltb (length t) m) 5)
-    ∙ picture-tray-number (not (admitted k n)) (not (eqb k 2)) (leb (k ^ n) p) (not (framed c h)) (ltb (length s) 8 || ltb (length t) m)
+    ∙ picture-tray k n p c h (ltb (length s) 8 || ltb (length t) m)
 
 cursor-given : (c : DC.Cursor) → cursorFault c ≡ given (cursorRules c)
 cursor-given c = cursor-number (not (admitted (c .k) (c .n))) (not (tidy c && cursorOk (cursorIn c)))
@@ -125,7 +125,7 @@ refusals = record {
   mark-at = λ k n p t t′ r e. answer-number (mark-answers k n p t t′ r e) ∙ place-tray k n p t 8;
   place-of = λ k n w t t′ r e. answer-number (place-answers k n w t t′ r e) ∙ word-tray k n w t 8;
   print-marks = λ k n p c t t′ r e. answer-number (print-answers k n p c t t′ r e) ∙ place-tray k n p t c;
-  print-picture = λ k n p c h t t′ r e. answer-number (picture-answers k n p c h t t′ r e) ∙ picture-tray k n p c h t (fileSize c h);
+  print-picture = λ k n p c h t t′ r e. answer-number (picture-answers k n p c h t t′ r e) ∙ picture-tray k n p c h (ltb (length t) (fileSize c h));
   picture-of = λ k n p c h s s′ t t′ r e. answer-number (both-answers k n p c h s s′ t t′ r e) ∙ picture-trays k n p c h s t (fileSize c h);
   check-plan = λ s r e. e ∙ plan-given s;
   look-up = λ s w t t′ r e. answer-number (look-up-answers s w t t′ r e) ∙ laying-tray s w t answerSize;

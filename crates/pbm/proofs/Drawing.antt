@@ -4,7 +4,7 @@ use mathlib.Core.Bool.{true}
 use mathlib.Core.List.{List, [], _++_, append-assoc, append-nil}
 use Prim.Native.Nat.{ℕ, _+_, _-_, _*_, _^_, _≤_}
 use native.Mathlib.Omega.{arith}
-use native.Mathlib.Nat.{mul-comm, mul-le-mul, le-mul-of-pos-right}
+use native.Mathlib.Nat.{mul-comm, le-mul-of-pos-right}
 use lib.ListN.{length, take, drop, length-append, take-append-drop, drop-of-length-le}
 use lib.Seq.{length-take-le, take-take, take-at, drop-at, drop-drop}
 use borrow.Rule.Slice.PartMut.{putMid, postOf, post-is, mid-len, same-len-mid}
@@ -24,7 +24,7 @@ use Rattle.texts.proofs.Adding.{adds-within, adds-part, adds-more}
 use Rattle.pbm.specs.declared.Parts as DP
 use Rattle.pbm.specs.Pictures.{rowText, headText, picture, rowSize, fileSize}
 use Rattle.pbm.specs.Parts.{Drawable, Parted}
-use Rattle.pbm.proofs.Rows.{row-length, file-size}
+use Rattle.pbm.proofs.Rows.{row-length, file-size, rows-most}
 
 -- what was put over the last part of a buffer
 lent-end : (a : ℕ) (xs ys : List ℕ) → a ≤ length xs → drop a (putMid a (length xs - a) xs ys) ≡ ys
@@ -54,7 +54,7 @@ module _ {s : DS.Strip} (h : Shaped s) (ten : s .k ≤ 10) (p c : ℕ) where
     pub row-fits : (length put ≡ length (rowText (drop (length out - c) put))) × (marksOk 10 (drop (length out - c) put) ≡ true)
     row-fits =
         let whole : length put ≡ length out = same-len-mid (length out - c) (length out - (length out - c)) out last (ap length e ∙ letters-length (s .k ^ s .n) (strip (s .k) (s .n)) p _) in
-        (whole ∙ fits ∙ sym (ap (λ r. length (rowText r)) behind ∙ row-length (s .k) (s .n) p c 0 some), subst (λ r. marksOk 10 r ≡ true) (sym behind) digits)
+        (whole ∙ fits ∙ sym (ap (λ r. length (rowText r)) behind ∙ row-length (s .k) (s .n) p c some), subst (λ r. marksOk 10 r ≡ true) (sym behind) digits)
 
     pub row-drawn : {x : List ℕ} → x ≡ rowText (drop (length out - c) put) → x ≡ rowText marks
     row-drawn g = g ∙ ap rowText behind
@@ -73,7 +73,7 @@ module _ {s : DS.Strip} {p c h : ℕ} (d : Drawable s p c h) where
   row = rowText (marksFrom (s .k) (s .n) p c)
 
   long : length row ≡ rowSize c
-  long = row-length (s .k) (s .n) p c h (d .frame .some)
+  long = row-length (s .k) (s .n) p c (d .frame .some)
 
   -- where the file fits, so do its head and one row
   pub one-fits : {m : ℕ} → fileSize c h ≤ m → length (headText c h) + rowSize c ≤ m
@@ -91,9 +91,7 @@ module _ {s : DS.Strip} {p c h : ℕ} (d : Drawable s p c h) where
     row-there = omega (arith, q .adds .ends, q .seam, length-append (headText c h) row, long)
 
     pub rows-small : (r .end - r .head) * h ≤ 3894912
-    rows-small =
-        let few : r .end - r .head ≤ 60858 = omega (arith, row-there, d .frame .wide) in
-        mul-le-mul few (d .frame .high)
+    rows-small = omega (arith, ap (λ x. x * h) row-there, mul-comm (rowSize c) h, rows-most c h (d .frame .wide) (d .frame .high))
 
     pub ends-there : r .head + (r .end - r .head) * h ≡ fileSize c h
     ends-there = omega (arith, q .seam, ap (λ x. x * h) row-there, mul-comm (rowSize c) h)

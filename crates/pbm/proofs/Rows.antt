@@ -41,8 +41,8 @@ row-long = broken-long 70
 pub row-size : (w : List ℕ) → 1 ≤ length w → length (rowText w) ≡ rowSize (length w)
 row-size w h = broken-size 70 (glyphs w) (omega arith) ∙ omega (arith, glyphs-length w)
 
--- the file of c marks in h rows
-module _ (k n p c h : ℕ) where
+-- the row of c marks, and the file of h of them
+module _ (k n p c : ℕ) where
   abbrev marks : List ℕ
   marks = marksFrom k n p c
 
@@ -52,14 +52,14 @@ module _ (k n p c h : ℕ) where
   pub row-length : 1 ≤ c → length (rowText marks) ≡ rowSize c
   row-length s = row-size marks (omega (arith, marks-length)) ∙ ap rowSize marks-length
 
-  file-length : length (picture k n p c h) ≡ length (headText c h) + h * length (rowText marks)
-  file-length = length-append (headText c h) (repeated h (rowText marks)) ∙ ap (λ l. length (headText c h) + l) (repeated-length h (rowText marks))
-
-  pub file-size : 1 ≤ c → length (picture k n p c h) ≡ fileSize c h
-  file-size s = file-length ∙ ap (λ l. length (headText c h) + h * l) (row-length s)
-
   row-most : c ≤ 60000 → length (rowText marks) ≤ 60858
   row-most m = omega (arith, broken-size 70 (glyphs marks) (omega arith), glyphs-length marks, marks-length)
+
+  file-length : (h : ℕ) → length (picture k n p c h) ≡ length (headText c h) + h * length (rowText marks)
+  file-length h = length-append (headText c h) (repeated h (rowText marks)) ∙ ap (λ l. length (headText c h) + l) (repeated-length h (rowText marks))
+
+  pub file-size : (h : ℕ) → 1 ≤ c → length (picture k n p c h) ≡ fileSize c h
+  file-size h s = file-length h ∙ ap (λ l. length (headText c h) + h * l) (row-length s)
 
 -- the head's two numbers have at most 5 digits and 2
 pub head-length : (c h : ℕ) → length (headText c h) ≡ length (decimal c) + length (decimal h) + 5
@@ -69,12 +69,17 @@ head-length c h = omega (arith, length-append (decimal c) (32 ∷ (decimal h ++ 
 pub head-most : (c h : ℕ) → c ≤ 60000 → h ≤ 64 → length (headText c h) ≤ 12
 head-most c h m l = omega (arith, head-length c h, decimal-length 5 c (omega arith) (omega arith), decimal-length 2 h (omega arith) (omega arith))
 
+pub rows-most : (c h : ℕ) → c ≤ 60000 → h ≤ 64 → h * rowSize c ≤ 3894912
+rows-most c h m l =
+    let few : rowSize c ≤ 60858 = omega arith in
+    mul-le-mul l few
+
 pub room : (k n p c h : ℕ) → 1 ≤ c → c ≤ 60000 → h ≤ 64 → length (picture k n p c h) ≤ 12 + h * rowSize c
 room k n p c h s m l = omega (arith, file-size k n p c h s, head-most c h m l)
 
 pub most : (k n p c h : ℕ) → c ≤ 60000 → h ≤ 64 → length (picture k n p c h) ≤ 3894924
 most k n p c h m l =
-    omega (arith, file-length k n p c h, head-most c h m l, mul-le-mul l (row-most k n p c h m))
+    omega (arith, file-length k n p c h, head-most c h m l, mul-le-mul l (row-most k n p c m))
 
 pub largest : (k n p c h : ℕ) → c ≡ 60000 → h ≡ 64 → length (picture k n p c h) ≡ 3894924
 unfolding headText

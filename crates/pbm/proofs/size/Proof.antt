@@ -2,9 +2,8 @@
 use mathlib.Core.Path.{ap}
 use Prim.Native.Nat.{_*_, _≤_}
 use native.Mathlib.Omega.{arith}
-use native.Mathlib.Nat.{mul-le-mul}
 use borrow.Author.Needs.{needs}
-use Rattle.pbm.proofs.Rows.{head-most}
+use Rattle.pbm.proofs.Rows.{head-most, rows-most}
 use Rattle.pbm.proofs.size.Statement.{statement}
 use Rattle.pbm.proofs.size.Tie as tie
 
@@ -21,8 +20,7 @@ row-size-requires c κs = search needs
 rows : (c : tie.After-row-size) → c .before .before .before .before .args .height * c .row-size .result ≤ 3894912
 rows c =
     let f = c .before .before .before .before in
-    let few : c .row-size .result ≤ 60858 = omega (arith, c .row-size .ensures, f .pre .wide) in
-    mul-le-mul (f .pre .high) few
+    omega (arith, ap (λ x. f .args .height * x) (c .row-size .ensures), rows-most (f .args .width) (f .args .height) (f .pre .wide) (f .pre .high))
 
 head : (c : tie.After-row-size) → c .before .before .put-head .result ≤ 12
 head c =

@@ -26,33 +26,29 @@ enum-known-strip c = search needs
 abbrev Known : Type 0
 Known = tie.After-known-told2
 
-module _ (c : Known) where
-  abbrev k : ℕ
-  k = c .before .before .before .before .args .k
+abbrev start : Known → tie.Start
+start c = c .before .before .before .before
 
-  abbrev n : ℕ
-  n = c .before .before .before .before .args .n
+refuses : (c : Known) {x : ℕ} → let a = start c .args in
+    rest (a .k) (a .n) (a .place) (a .width) (a .height) ≡ x → ¬ (x ≡ 0) → Checks (pictureFault (a .k) (a .n) (a .place) (a .width) (a .height)) (a .k) (a .n) (Refused x)
+refuses c =
+    let a = start c .args in
+    strip-then-refused (a .k) (a .n) (rest (a .k) (a .n) (a .place) (a .width) (a .height)) (c .before .before .before .check-strip .ensures) (c .before .strip .given .1)
 
-  abbrev p : ℕ
-  p = c .before .before .before .before .args .place
-
-  abbrev w : ℕ
-  w = c .before .before .before .before .args .width
-
-  abbrev h : ℕ
-  h = c .before .before .before .before .args .height
-
-  refuses : {x : ℕ} → rest k n p w h ≡ x → ¬ (x ≡ 0) → Checks (pictureFault k n p w h) k n (Refused x)
-  refuses = strip-then-refused k n (rest k n p w h) (c .before .before .before .check-strip .ensures) (c .before .strip .given .1)
-
-  size : c .before .strip .given .0 .0 .size ≡ k ^ n
-  size = strip-size (strip-checked k n (c .before .before .before .check-strip .ensures) (c .before .strip .given .1))
+size : (c : Known) → c .before .strip .given .0 .0 .size ≡ start c .args .k ^ start c .args .n
+size c = strip-size (strip-checked (start c .args .k) (start c .args .n) (c .before .before .before .check-strip .ensures) (c .before .strip .given .1))
 
 returns : tie.Need-returns
-returns c = let at = c .before in refuses at (not-two (k at) (n at) (p at) (w at) (h at) (omega arith)) (λ z. omega arith)
+returns c =
+    let at = c .before in
+    let a = start at .args in
+    refuses at (not-two (a .k) (a .n) (a .place) (a .width) (a .height) (omega arith)) (λ z. omega arith)
 
 returns-2 : tie.Need-returns-2
-returns-2 c = let at = c .before .before .before in refuses at (off-strip (k at) (n at) (p at) (w at) (h at) (omega arith) (omega (arith, size at))) (λ z. omega arith)
+returns-2 c =
+    let at = c .before .before .before in
+    let a = start at .args in
+    refuses at (off-strip (a .k) (a .n) (a .place) (a .width) (a .height) (omega arith) (omega (arith, size at))) (λ z. omega arith)
 
 is-framed-requires : tie.Need-is-framed-requires
 is-framed-requires c κs = search needs
@@ -60,8 +56,9 @@ is-framed-requires c κs = search needs
 returns-3 : tie.Need-returns-3
 returns-3 c =
     let at = c .before .before .before .before .before in
-    strip-then-passed (k at) (n at) (rest (k at) (n at) (p at) (w at) (h at)) (at .before .before .before .check-strip .ensures) (at .before .strip .given .1)
-    (left (k at) (n at) (p at) (w at) (h at) (omega arith) (omega (arith, size at)) ∙ ap (λ t. when (not t) 13) (sym (c .before .is-framed .ensures) ∙ c .if3 .taken))
+    let a = start at .args in
+    strip-then-passed (a .k) (a .n) (rest (a .k) (a .n) (a .place) (a .width) (a .height)) (at .before .before .before .check-strip .ensures) (at .before .strip .given .1)
+    (left (a .k) (a .n) (a .place) (a .width) (a .height) (omega arith) (omega (arith, size at)) ∙ ap (λ t. when (not t) 13) (sym (c .before .is-framed .ensures) ∙ c .if3 .taken))
 
 returns-4 : tie.Need-returns-4
 returns-4 c = let a = c .before .before .before .before .args in strip-refused (a .k) (a .n) (rest (a .k) (a .n) (a .place) (a .width) (a .height)) (c .before .before .before .check-strip .ensures) (c .before .number .given .1)
@@ -69,7 +66,8 @@ returns-4 c = let a = c .before .before .before .before .args in strip-refused (
 returns-5 : tie.Need-returns-5
 returns-5 c =
     let at = c .before .before .before .before .before in
-    refuses at (left (k at) (n at) (p at) (w at) (h at) (omega arith) (omega (arith, size at)) ∙ ap (λ t. when (not t) 13) (sym (c .before .is-framed .ensures) ∙ c .if3 .left)) (λ z. omega arith)
+    let a = start at .args in
+    refuses at (left (a .k) (a .n) (a .place) (a .width) (a .height) (omega arith) (omega (arith, size at)) ∙ ap (λ t. when (not t) 13) (sym (c .before .is-framed .ensures) ∙ c .if3 .left)) (λ z. omega arith)
 
 pub check-spec : {M : Type 1} → statement M
 check-spec =
