@@ -641,12 +641,18 @@ static uint64_t below(uint64_t limit) {
     return limit == 0 ? 0 : draw() % limit;
 }
 
+/* a number of any size, small ones as often as large ones */
+static uint64_t draw_any(void) {
+    uint64_t shift = below(64);
+    return draw() >> shift;
+}
+
 /* a strip: mostly admitted, else near the limits or far off */
 static void draw_strip(uint64_t *k, uint64_t *n) {
     uint64_t places;
     switch (below(8)) {
     case 0: *k = below(81), *n = below(81); break;
-    case 1: *k = draw() >> below(64), *n = below(2) ? below(61) : draw() >> below(64); break;
+    case 1: *k = draw_any(), *n = below(2) ? below(61) : draw_any(); break;
     default:
         do *k = 2 + below(35), *n = 1 + below(below(2) ? 60 : 8);
         while (!admitted(*k, *n, &places));
@@ -671,7 +677,7 @@ static size_t draw_word(uint64_t k, uint64_t n, uint8_t *word) {
 
 static uint64_t draw_number(uint64_t limit) {
     switch (below(6)) {
-    case 0: return draw() >> below(64);
+    case 0: return draw_any();
     case 1: return limit - 2 + below(4);
     case 2: return below(4);
     default: return below(limit);
@@ -709,7 +715,7 @@ static size_t draw_plan(uint64_t k, uint64_t n, uint8_t *plan) {
         for (uint64_t i = 1 + below(3); i > 0; i--) plan[below(length)] = (uint8_t)draw();
     } else if (style == 2 && length > 4) {
         size_t at = 4 + 8 * (size_t)below((length - 4) / 8);
-        put_number(plan + at, below(2) ? draw() >> below(64) : number_in(plan + at, 8) - n + below(2 * n + 1), 8);
+        put_number(plan + at, below(2) ? draw_any() : number_in(plan + at, 8) - n + below(2 * n + 1), 8);
     } else if (style == 3) {
         length = below(2) ? below(length) : length + 1 + below(20);
     }
@@ -743,8 +749,8 @@ static void draw_picture(struct ask *a) {
     a->number = draw_number(places);
     a->marks = 1 + below(below(8) == 0 ? 2000 : 150);
     a->height = 1 + below(below(8) == 0 ? HIGHEST + 2 : 4);
-    if (below(16) == 0) a->marks = draw() >> below(64);
-    if (below(16) == 0) a->height = draw() >> below(64);
+    if (below(16) == 0) a->marks = draw_any();
+    if (below(16) == 0) a->height = draw_any();
     a->size_length = below(8) == 0 ? below(MOST_SIZE) : NUMBER;
 }
 
@@ -758,7 +764,7 @@ static void draw_call(void) {
     if (takes_a_word(a.call)) a.input_length = draw_word(a.k, a.n, word);
     if (a.call == WORD) a.number = draw_number(admitted(a.k, a.n, &places) ? lyndon_count(a.k, a.n) : 100);
     if (a.call == MARK || a.call == PRINT) a.number = draw_number(places);
-    if (a.call == PRINT) a.marks = below(8) == 0 ? draw() >> below(64) : below(below(8) == 0 ? 2000 : 100);
+    if (a.call == PRINT) a.marks = below(8) == 0 ? draw_any() : below(below(8) == 0 ? 2000 : 100);
     if (a.call == LOOK || a.call == SMUDGED) {
         a.plan_length = draw_plan(a.k % 256, a.n % 256, plan);
         a.input_length = draw_window(plan, a.plan_length, word);
