@@ -13,7 +13,7 @@ static const char *const NAMES[CALLS] = {"turn_of", "rank_of", "place_of", "word
 static const uint64_t STRIPS[][2] = {{2, 60}, {4, 30}, {36, 11}};
 
 static uint64_t k, n, numbers[INPUTS];
-static uint8_t words[INPUTS][MOST], plan[4 + 16 * SECTIONS], printed[MAKERS][FILE_BYTES];
+static uint8_t words[INPUTS][MOST], plan[4 + 18 * SECTIONS], printed[MAKERS][FILE_BYTES];
 
 static uint64_t draw(void) {
     static uint64_t seed = 1;
@@ -36,9 +36,11 @@ static void draw_inputs(int call) {
     plan[1] = (uint8_t)n;
     put_number(plan + 2, SECTIONS, 2);
     for (uint64_t i = 0; i < SECTIONS; i++) {
-        put_number(plan + 4 + 16 * i, i * room, 8);
+        uint8_t *at = plan + 4 + 18 * i;
+        put_number(at, i * room, 8);
         /* of smudged windows hardly any is laid, so that all fillings are tried */
-        put_number(plan + 12 + 16 * i, call == SMUDGED ? n : room - i % 2 * (room / 8), 8);
+        put_number(at + 8, call == SMUDGED ? n : room - i % 2 * (room / 8), 8);
+        put_number(at + 16, i / 2, 2); /* the sections that meet have one rail */
     }
 }
 

@@ -83,12 +83,17 @@ static inline uint8_t answer(uint64_t value, uint8_t *tray, size_t tray_len) {
     return 0;
 }
 
+/* bytes of a section's entry: told by the total, 18 in a record with rails, else 16 */
+static inline size_t entry_of(const uint8_t *plan, size_t length) {
+    return length == 4 + 16 * get_number(plan + 2, 2) ? 16 : 18;
+}
+
 static inline uint8_t plan_fault(const uint8_t *plan, size_t length) {
     uint64_t places, end = 0;
-    if (length < 4 || get_number(plan + 2, 2) > SECTIONS || length != 4 + 16 * get_number(plan + 2, 2)) return 7;
+    if (length < 4 || get_number(plan + 2, 2) > SECTIONS || length != 4 + entry_of(plan, length) * get_number(plan + 2, 2)) return 7;
     places = places_of(plan[0], plan[1]);
     if (places == 0) return 1;
-    for (size_t at = 4; at < length; at += 16) {
+    for (size_t at = 4; at < length; at += entry_of(plan, length)) {
         uint64_t offset = get_number(plan + at, 8), size = get_number(plan + at + 8, 8);
         if (offset < end || offset > places || size < plan[1] || size > places - offset) return 8;
         end = offset + size;
@@ -96,7 +101,21 @@ static inline uint8_t plan_fault(const uint8_t *plan, size_t length) {
     return 0;
 }
 
-/* the section and the distance of the window at a place of an accepted plan, as the answer's 10 bytes; 0 if it is not laid */
+/* the answer for the window at a place p, if it is laid in a section that holds its first mark; the section's entry is at `at`. 0 if it is not */
+static inline int answer_in(const uint8_t *plan, size_t plan_len, size_t at, uint64_t p, uint8_t *answer) {
+    size_t entry = entry_of(plan, plan_len), next = at + entry, number = (at - 4) / entry;
+    uint64_t offset = get_number(plan + at, 8), end = offset + get_number(plan + at + 8, 8);
+    if (p + plan[1] > end) {
+        if (next == plan_len || get_number(plan + next, 8) != end) return 0;
+        if (entry == 18 && get_number(plan + next + 16, 2) != get_number(plan + at + 16, 2)) return 0;
+    }
+    put_number(answer, number, 2);
+    put_number(answer + 2, p - offset, 8);
+    put_number(answer + 10, entry == 18 ? get_number(plan + at + 16, 2) : number, 2);
+    return 1;
+}
+
+/* section, distance and rail of the window at a place of an accepted plan, as the answer's 12 bytes; 0 if it is not laid */
 typedef int laid_at(const uint8_t *plan, size_t plan_len, uint64_t place, uint8_t *answer);
 typedef uint8_t place_call(uint64_t k, uint64_t n, const uint8_t *window, size_t window_len, uint8_t *tray, size_t tray_len);
 

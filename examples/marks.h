@@ -43,7 +43,8 @@ static void look(const uint8_t *plan, size_t plan_len, const char *text)
         printf("%s: refused %u, %s\n", text, refused, strip_meaning(refused));
         return;
     }
-    printf("%s: section %llu, distance %llu", text, (unsigned long long)number(tray, 2), (unsigned long long)number(tray + 2, 8));
+    printf("%s: section %llu, distance %llu, rail %llu", text, (unsigned long long)number(tray, 2), (unsigned long long)number(tray + 2, 8),
+           (unsigned long long)number(tray + 10, 2));
     tell_turn(plan, window, count);
     printf("\n");
 }

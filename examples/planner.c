@@ -64,13 +64,18 @@ static size_t ask_plan(uint8_t *plan)
     put(plan, ask("shades k", 2, STRIP_MOST_SHADES), 1);
     put(plan + 1, ask("marks in a window n", 1, STRIP_MOST_MARKS), 1);
     size_t sections = (size_t)ask("sections", 0, STRIP_MOST_SECTIONS);
+    int with_rails = ask("with rails, 1 for yes and 0 for no", 0, 1) == 1;
+    size_t entry = with_rails ? 18 : 16;
     put(plan + 2, sections, 2);
     for (size_t i = 0; i < sections; i++) {
+        uint8_t *at = plan + 4 + entry * i;
         printf("section %zu: ", i);
-        put(plan + 4 + 16 * i, ask("offset", 0, STRIP_MOST_PLACES), 8);
-        put(plan + 12 + 16 * i, ask("length", 0, STRIP_MOST_PLACES), 8);
+        put(at, ask("offset", 0, STRIP_MOST_PLACES), 8);
+        put(at + 8, ask("length", 0, STRIP_MOST_PLACES), 8);
+        if (with_rails)
+            put(at + 16, ask("rail", 0, 65535), 2);
     }
-    return 4 + 16 * sections;
+    return 4 + entry * sections;
 }
 
 /* A plan's fault, or 0. No strip has windows of no marks, and the faults of a plan come before that refusal. */

@@ -32,15 +32,15 @@ extern "C" {
 #endif
 
 /* The major number rises with a change that a host must react to, the minor number with a new call. */
-#define STRIP_VERSION_MAJOR 2
-#define STRIP_VERSION_MINOR 1
+#define STRIP_VERSION_MAJOR 3
+#define STRIP_VERSION_MINOR 0
 
-/* Limits: k from 2, n from 1, and k^n at most 2^60; sections of a plan, and its bytes. */
+/* Limits: k from 2, n from 1, and k^n at most 2^60; sections of a plan, and the bytes of its longest record. */
 #define STRIP_MOST_SHADES 36
 #define STRIP_MOST_MARKS 60
 #define STRIP_MOST_PLACES (UINT64_C(1) << 60)
 #define STRIP_MOST_SECTIONS 500
-#define STRIP_MOST_PLAN (4 + 16 * STRIP_MOST_SECTIONS)
+#define STRIP_MOST_PLAN (4 + 18 * STRIP_MOST_SECTIONS) /* 9,004 */
 
 /* Pictures: width and height from 1, and bytes that hold any file of so many marks in so many rows; its size is at most 5 less. */
 #define STRIP_MOST_WIDTH 60000
@@ -89,9 +89,9 @@ static inline const char *strip_meaning(unsigned number) {
     return "refused";
 }
 
-/* Bytes of an answer: a number; a section and a distance. */
+/* Bytes of an answer: a number; a section, a distance and a rail. */
 #define STRIP_NUMBER 8
-#define STRIP_LAYING 10
+#define STRIP_LAYING 12
 
 /* The turn of a word of n marks: how many marks must go from its front to its end, one after the other, until it is its smallest rotation for the
    first time. 0 for a word that is so already, else below n: 1 for 101010. Read on from that mark, round the end, the word is its smallest
@@ -130,13 +130,17 @@ uint8_t print_marks(uint64_t k, uint64_t n, uint64_t place, uint64_t marks, uint
 uint8_t picture_of(uint64_t k, uint64_t n, uint64_t place, uint64_t width, uint64_t height, uint8_t *size, size_t size_len, uint8_t *tray,
                    size_t tray_len);
 
-/* The section of a laying plan in which a window is read, and its distance from the section's start. Tray: 10 bytes, the section's number
-   from 0 in 2 and the distance in 8. Refusals: 7, 1, 8, 2, 3, 9, 6.
+/* The section of a laying plan in which a window is read, its distance from the section's start, and the section's rail. Tray: 12 bytes, the
+   section's number from 0 in 2, the distance in 8 and the rail in 2. Refusals: 7, 1, 8, 2, 3, 9, 6.
 
-   A plan is one byte k, one byte n, 2 bytes with the number m of sections (0 to 500), then m pairs of offset and length, 8 bytes each:
-   4 + 16 m bytes. Each length is at least n, each section ends at or before k^n, and none starts before the one ahead ends. A window is
-   laid in the section that holds its first mark, if its last mark is there too or, over a welded joint, in the next section. A joint is
-   welded if the next section begins at the place where this one ends; then each place of this one has its window, and distance plus n may
+   A plan is one byte k, one byte n, 2 bytes with the number m of sections (0 to 500), then an entry for each section. In an old record an entry
+   is offset and length, 8 bytes each, and the record has 4 + 16 m bytes; in a new one the number of the section's rail follows in 2, and the
+   record has 4 + 18 m. The total tells which of the two it is; with m = 0 they are the same. Rails may be any numbers and may repeat. In an old
+   record a section's rail is the section's own number.
+
+   Each length is at least n, each section ends at or before k^n, and none starts before the one ahead ends. A window is laid in the section that
+   holds its first mark, if its last mark is there too or, over a welded joint, in the next section. A joint is welded if the next section begins
+   at the place where this one ends and, in a new record, has the same rail; then each place of this one has its window, and distance plus n may
    come out above the section's length. A gap of one place is not read over, nor is the strip's end.
 
    Example. On the strip of 2 shades and windows of 4, 0000100110101111, with the sections (0, 6) and (8, 8):
@@ -147,16 +151,17 @@ uint8_t picture_of(uint64_t k, uint64_t n, uint64_t place, uint64_t width, uint6
        uint8_t tray[STRIP_LAYING];
        look_up(plan, sizeof plan, window, sizeof window, tray, sizeof tray);
 
-   returns 0 and leaves 0 1, 0 0 0 0 0 0 0 2 in the tray: the window is read at place 10, in section 1, 2 marks from its start.
-   With the sections (0, 8) and (8, 8) the window 1101 is read at place 7, across the joint: section 0, distance 7. */
+   returns 0 and leaves 0 1, 0 0 0 0 0 0 0 2, 0 1 in the tray: the window is read at place 10, in section 1, 2 marks from its start, and the
+   rail is 1, the section's number, since the record is an old one. With the sections (0, 8) and (8, 8) the window 1101 is read at place 7, across
+   the joint: section 0, distance 7, rail 0. In the new record with rail 7 for both sections its rail is 7; with rails 7 and 8 it is refused with 9. */
 uint8_t look_up(const uint8_t *plan, size_t plan_len, const uint8_t *window, size_t window_len, uint8_t *tray, size_t tray_len);
 
 /* The same for a window in which up to two marks could not be read: byte STRIP_UNREAD, which is no bad mark here and is one in every other call.
-   The answer is the section and the distance of some laid window that agrees at every mark that was read. Which one, if several do, is
-   free, and may change: do not rely on it. With every mark read the answer is look_up's. Tray: 10 bytes, as for look_up.
+   The answer is section, distance and rail of some laid window that agrees at every mark that was read. Which one, if several do, is
+   free, and may change: do not rely on it. With every mark read the answer is look_up's. Tray: 12 bytes, as for look_up.
    Refusals: 7, 1, 8, 2, 11, 3, 9, 6, where 9 says that no laid window agrees.
 
-   With the plan above, the window {STRIP_UNREAD, 0, 0, 0} leaves 0 0, 0 0 0 0 0 0 0 0 in the tray: of 0000, at place 0, and 1000, at place 15
+   With the plan above, the window {STRIP_UNREAD, 0, 0, 0} leaves 0 0, 0 0 0 0 0 0 0 0, 0 0 in the tray: of 0000, at place 0, and 1000, at place 15
    and over the strip's end, only the first is laid. {1, 0, 0, STRIP_UNREAD} is refused with 9.
 
    Each unread mark may be any of the k shades, so with two of them k * k windows are tried: at most 1,296. */

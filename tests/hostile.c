@@ -7,9 +7,10 @@
 #include <limits.h>
 
 enum { TURN, RANK, WORD, MARK, PLACE, PRINT, PICTURE, LOOK, SMUDGED, CALLS };
-enum { SHADES = 36, LONGEST = 60, MOST_SECTIONS = 500, NUMBER = 8, LAYING = 10, UNREAD = 255, MOST_UNREAD = 2 };
+enum { SHADES = 36, LONGEST = 60, MOST_SECTIONS = 500, NUMBER = 8, LAYING = 12, UNREAD = 255, MOST_UNREAD = 2 };
 enum { WIDEST = 60000, HIGHEST = 64, LINE = 70 };
-enum { MOST_WORD = 96, MOST_TRAY = 1 << 18, MOST_PLAN = 9000, MOST_SIZE = 16 };
+enum { HEAD = 4, PAIR = 16, RAILED = 18 }; /* bytes of a plan before the entries, of an entry in an old record, and in a new one */
+enum { MOST_WORD = 96, MOST_TRAY = 1 << 18, MOST_PLAN = 9100, MOST_SIZE = 16 };
 #define MOST_PLACES ((uint64_t)1 << 60)
 static const char *const NAMES[CALLS] = {"turn_of", "rank_of", "word_of", "mark_at", "place_of", "print_marks", "picture_of", "look_up", "look_up_smudged"};
 
@@ -23,11 +24,11 @@ _Static_assert(1 IN_ORDER(HAS_A_BIT), "a refusal's number has no bit in a mask")
 
 /* What the header tells a host is what is tried here. */
 _Static_assert(STRIP_MOST_SHADES == SHADES && STRIP_MOST_MARKS == LONGEST && STRIP_MOST_PLACES == MOST_PLACES, "limits of a strip");
-_Static_assert(STRIP_MOST_SECTIONS == MOST_SECTIONS && STRIP_MOST_PLAN == 4 + 16 * MOST_SECTIONS, "limits of a plan");
+_Static_assert(STRIP_MOST_SECTIONS == MOST_SECTIONS && STRIP_MOST_PLAN == HEAD + RAILED * MOST_SECTIONS, "limits of a plan");
 _Static_assert(STRIP_NUMBER == NUMBER && STRIP_LAYING == LAYING, "bytes of an answer");
 _Static_assert(STRIP_MOST_WIDTH == WIDEST && STRIP_MOST_HEIGHT == HIGHEST && STRIP_MOST_PICTURE == 3894924, "limits of a picture");
 _Static_assert(STRIP_UNREAD == UNREAD && STRIP_MOST_UNREAD == MOST_UNREAD, "marks that were not read");
-_Static_assert(MOST_PLAN >= 4 + 16 * (MOST_SECTIONS + 1) + 16, "a plan of one section too many, and a longer one, have room");
+_Static_assert(MOST_PLAN >= HEAD + RAILED * (MOST_SECTIONS + 1) + RAILED, "a plan of one section too many, and a longer one, have room");
 
 struct ask {
     int call, kind;
@@ -114,11 +115,28 @@ static void put_number(uint8_t *at, uint64_t value, int length) {
     for (int i = 0; i < length; i++) at[i] = (uint8_t)(value >> 8 * (length - 1 - i));
 }
 
+static size_t count_in(const uint8_t *plan) {
+    return (size_t)number_in(plan + 2, 2);
+}
+
+/* bytes of an entry, told by the total; 0 if it fits neither record */
+static size_t entry_of(const uint8_t *plan, size_t length) {
+    return length == HEAD + PAIR * count_in(plan) ? PAIR : length == HEAD + RAILED * count_in(plan) ? RAILED : 0;
+}
+
+/* entry i of a plan, as an old or a new record has it */
+static void put_entry(uint8_t *plan, size_t entry, uint64_t i, uint64_t offset, uint64_t size, uint64_t rail) {
+    uint8_t *at = plan + HEAD + entry * i;
+    put_number(at, offset, 8);
+    put_number(at + 8, size, 8);
+    if (entry == RAILED) put_number(at + PAIR, rail, 2);
+}
+
 static unsigned plan_faults(const uint8_t *plan, size_t length) {
     uint64_t places, end = 0;
-    if (length < 4 || number_in(plan + 2, 2) > MOST_SECTIONS || length != 4 + 16 * number_in(plan + 2, 2)) return 1u << 7;
+    if (length < HEAD || count_in(plan) > MOST_SECTIONS || entry_of(plan, length) == 0) return 1u << 7;
     if (!admitted(plan[0], plan[1], &places)) return 1u << 1;
-    for (size_t at = 4; at < length; at += 16) {
+    for (size_t at = HEAD; at < length; at += entry_of(plan, length)) {
         uint64_t offset = number_in(plan + at, 8), size = number_in(plan + at + 8, 8);
         if (offset < end || offset > places || size < plan[1] || size > places - offset) return 1u << 8;
         end = offset + size;
@@ -133,19 +151,24 @@ static int holds_mark(const uint8_t *section, uint64_t place) {
 
 /* the section that holds the mark at a place, or NULL */
 static const uint8_t *holder(const struct ask *a, uint64_t place) {
-    for (const uint8_t *section = a->plan + 4; section < a->plan + a->plan_length; section += 16)
+    size_t entry = entry_of(a->plan, a->plan_length);
+    for (const uint8_t *section = a->plan + HEAD; section < a->plan + a->plan_length; section += entry)
         if (holds_mark(section, place)) return section;
     return NULL;
 }
 
-/* the section and the distance at which a window is laid, as the answer's 10 bytes; 0 if it is not: each of its marks must be held by a section */
+/* section, distance and rail at which a window is laid, as the answer's 12 bytes; 0 if it is not: each of its marks must be held by a section, in a new
+   record by one with the same rail */
 static int laid(const struct ask *a, uint64_t place, uint8_t *answer) {
+    size_t entry = entry_of(a->plan, a->plan_length);
     const uint8_t *first = holder(a, place), *section = first;
     for (uint64_t i = 0; i < a->plan[1] && section != NULL; i++)
         if (!holds_mark(section, place + i)) section = holder(a, place + i);
-    if (section == NULL) return 0;
-    put_number(answer, (uint64_t)(first - a->plan - 4) / 16, 2);
+    if (section == NULL || (entry == RAILED && memcmp(section + PAIR, first + PAIR, 2) != 0)) return 0;
+    uint64_t number = (uint64_t)(first - a->plan - HEAD) / entry;
+    put_number(answer, number, 2);
     put_number(answer + 2, place - number_in(first, 8), 8);
+    put_number(answer + 10, entry == RAILED ? number_in(first + PAIR, 2) : number, 2);
     return 1;
 }
 
@@ -321,12 +344,12 @@ static int sound_picture(const struct ask *a, const uint8_t *file) {
     return digits == a->marks * a->height && in_line == 0;
 }
 
-/* the section and the distance are those of the window there, which agrees with what was read */
+/* section, distance and rail are those of the window there, which agrees with what was read */
 static int sound_smudged(const struct ask *a, const uint8_t *answer) {
     uint8_t right[LAYING], window[LONGEST];
     uint64_t section = number_in(answer, 2), k = a->plan[0], n = a->plan[1];
     if (section >= number_in(a->plan + 2, 2)) return 0;
-    uint64_t place = number_in(a->plan + 4 + 16 * section, 8) + number_in(answer + 2, 8);
+    uint64_t place = number_in(a->plan + HEAD + entry_of(a->plan, a->plan_length) * section, 8) + number_in(answer + 2, 8);
     if (!laid(a, place, right) || memcmp(answer, right, LAYING) != 0 || print_marks(k, n, place, n, window, n) != 0) return 0;
     for (size_t i = 0; i < n; i++)
         if (a->input[i] != UNREAD && a->input[i] != window[i]) return 0;
@@ -464,17 +487,17 @@ static const uint64_t SECTIONS[][5] = {{0},           {2, 0, 6, 8, 8},  {1, 12, 
 static const uint8_t PLAN_STRIPS[][2] = {{2, 4}, {1, 4}, {2, 0}, {2, 61}, {0, 0}, {255, 255}};
 
 /* tears a record: its end cut or longer, another count of sections */
-static size_t tear(uint8_t *plan, size_t length, int how) {
-    uint64_t m = number_in(plan + 2, 2);
+static size_t tear(uint8_t *plan, size_t length, size_t entry, int how) {
+    uint64_t m = count_in(plan);
     switch (how) {
     case 1: return length - 1;
     case 2: return length + 1;
-    case 3: return length + 16;
+    case 3: return length + entry;
     case 4: return 3;
     case 5: return 0;
     case 6: put_number(plan + 2, m + 1, 2); break;
     case 7: put_number(plan + 2, m + 256, 2); break;
-    case 8: put_number(plan + 2, 501, 2); return 4 + 16 * 501;
+    case 8: put_number(plan + 2, 501, 2); return HEAD + entry * 501;
     case 9: put_number(plan + 2, 65535, 2); break;
     }
     return length;
@@ -486,22 +509,26 @@ static const uint8_t WINDOWS[][6] = {{4, 0, 0, 0, 0}, {4, 1, 1, 0, 0}, {4, 1, 1,
                                      {4, 255, 0, 0, 255}, {4, 1, 255, 1, 255}, {4, 1, 0, 0, 255}, {4, 255, 2, 0, 0}, {4, 254, 255, 0, 0},
                                      {4, 255, 255, 255, 0}, {4, 255, 2, 255, 255}, {3, 255, 255, 255}, {5, 255, 255, 255, 255, 2}};
 
-static void all_plan_sets(void) {
+static void plan_sets(const uint8_t *strip, const uint64_t *sections, size_t entry) {
     static uint8_t plan[MOST_PLAN];
+    for (int how = 0; how < 10; how++)
+        for (size_t w = 0; w < sizeof WINDOWS / sizeof *WINDOWS; w++) {
+            memset(plan, 0, sizeof plan);
+            memcpy(plan, strip, 2);
+            put_number(plan + 2, sections[0], 2);
+            for (uint64_t i = 0; i < sections[0]; i++) put_entry(plan, entry, i, sections[1 + 2 * i], sections[2 + 2 * i], 65535 - i);
+            struct ask a = {.call = LOOK, .plan = plan, .input = WINDOWS[w] + 1, .input_length = WINDOWS[w][0]};
+            a.plan_length = tear(plan, HEAD + entry * (size_t)sections[0], entry, how);
+            if (how == 0 || w < PLAIN) try_trays(a);
+            a.call = SMUDGED;
+            if (how == 0 || w >= PLAIN) try_trays(a);
+        }
+}
+
+static void all_plan_sets(void) {
     for (size_t p = 0; p < sizeof PLAN_STRIPS / 2; p++)
         for (size_t s = 0; s < sizeof SECTIONS / sizeof *SECTIONS; s++)
-            for (int how = 0; how < 10; how++)
-                for (size_t w = 0; w < sizeof WINDOWS / sizeof *WINDOWS; w++) {
-                    memset(plan, 0, sizeof plan);
-                    memcpy(plan, PLAN_STRIPS[p], 2);
-                    put_number(plan + 2, SECTIONS[s][0], 2);
-                    for (uint64_t i = 0; i < 2 * SECTIONS[s][0]; i++) put_number(plan + 4 + 8 * i, SECTIONS[s][1 + i], 8);
-                    struct ask a = {.call = LOOK, .plan = plan, .input = WINDOWS[w] + 1, .input_length = WINDOWS[w][0]};
-                    a.plan_length = tear(plan, 4 + 16 * (size_t)SECTIONS[s][0], how);
-                    if (how == 0 || w < PLAIN) try_trays(a);
-                    a.call = SMUDGED;
-                    if (how == 0 || w >= PLAIN) try_trays(a);
-                }
+            for (size_t entry = PAIR; entry <= RAILED; entry += RAILED - PAIR) plan_sets(PLAN_STRIPS[p], SECTIONS[s], entry);
 }
 
 /* Every section of a plan looked for, and every pair of numbers broken alone */
@@ -510,18 +537,15 @@ static const uint64_t SPREAD_STRIPS[][2] = {{2, 16}, {36, 11}, {2, 60}};
 static const uint64_t COUNTS[] = {0, 1, 2, 3, MOST_SECTIONS};
 enum { EARLY, NARROW, BEYOND, LONG, WRAPPING, WAYS };
 
-/* m sections over the whole strip: some touch the next, some leave a gap of one mark, of n or of more */
-static size_t spread(uint64_t k, uint64_t n, uint64_t m, uint8_t *plan) {
+/* m sections over the whole strip: some touch the next, some leave a gap of one mark, of n or of more; of those that touch some share a rail */
+static size_t spread(uint64_t k, uint64_t n, uint64_t m, uint8_t *plan, size_t entry) {
     uint64_t places, gaps[] = {0, 1, n, n + 5};
     admitted(k, n, &places);
     plan[0] = (uint8_t)k;
     plan[1] = (uint8_t)n;
     put_number(plan + 2, m, 2);
-    for (uint64_t i = 0; i < m; i++) {
-        put_number(plan + 4 + 16 * i, i * (places / m), 8);
-        put_number(plan + 12 + 16 * i, places / m - gaps[i % 4], 8);
-    }
-    return 4 + 16 * (size_t)m;
+    for (uint64_t i = 0; i < m; i++) put_entry(plan, entry, i, i * (places / m), places / m - gaps[i % 4], i % 3 == 0 ? 65535 : 256);
+    return HEAD + entry * (size_t)m;
 }
 
 /* the window at a place, with the mark in its middle unread if the call takes that */
@@ -541,7 +565,7 @@ static void look_at(struct ask *a, uint64_t place) {
 static void each_section(struct ask *a, size_t stride) {
     look_at(a, 0);
     look_at(a, UINT64_MAX);
-    for (size_t at = 4; at < a->plan_length; at += 16 * stride) {
+    for (size_t at = HEAD; at < a->plan_length; at += entry_of(a->plan, a->plan_length) * stride) {
         uint64_t start = number_in(a->plan + at, 8), end = start + number_in(a->plan + at + 8, 8);
         uint64_t spots[] = {start, end - 1, end - a->plan[1], end - a->plan[1] + 1, end - a->plan[1] / 2, end};
         for (size_t i = 0; i < sizeof spots / sizeof *spots; i++) look_at(a, spots[i]);
@@ -549,10 +573,10 @@ static void each_section(struct ask *a, size_t stride) {
 }
 
 /* a pair that begins before the one ahead ends, is too short, begins or ends behind the strip, or has a sum that does not fit 64 bits */
-static void break_pair(uint8_t *pair, int way, uint64_t n, uint64_t places) {
+static void break_pair(uint8_t *pair, size_t entry, int way, uint64_t n, uint64_t places) {
     uint64_t offset = number_in(pair, 8);
     switch (way) {
-    case EARLY: put_number(pair, number_in(pair - 16, 8) + number_in(pair - 8, 8) - 1, 8); break;
+    case EARLY: put_number(pair, number_in(pair - entry, 8) + number_in(pair - entry + 8, 8) - 1, 8); break;
     case NARROW: put_number(pair + 8, n - 1, 8); break;
     case BEYOND: put_number(pair, places + 1, 8); break;
     case LONG: put_number(pair + 8, places - offset + 1, 8); break;
@@ -561,33 +585,36 @@ static void break_pair(uint8_t *pair, int way, uint64_t n, uint64_t places) {
 }
 
 static void each_pair(struct ask *a, uint8_t *plan) {
-    uint8_t pair[16];
+    uint8_t pair[PAIR];
     uint64_t places;
+    size_t entry = entry_of(plan, a->plan_length);
     admitted(plan[0], plan[1], &places);
-    for (size_t at = 4; at < a->plan_length; at += 16)
-        for (int way = at == 4 ? EARLY + 1 : EARLY; way < WAYS; way++) {
-            memcpy(pair, plan + at, 16);
-            break_pair(plan + at, way, plan[1], places);
+    for (size_t at = HEAD; at < a->plan_length; at += entry)
+        for (int way = at == HEAD ? EARLY + 1 : EARLY; way < WAYS; way++) {
+            memcpy(pair, plan + at, PAIR);
+            break_pair(plan + at, entry, way, plan[1], places);
             if (plan_faults(plan, a->plan_length) != 1u << 8) fail(a, "a pair that is not broken", 0, 8);
             look_at(a, 0);
-            memcpy(plan + at, pair, 16);
+            memcpy(plan + at, pair, PAIR);
         }
 }
 
 static void all_sections(void) {
     static uint8_t plan[MOST_PLAN];
     for (size_t s = 0; s < sizeof SPREAD_STRIPS / sizeof *SPREAD_STRIPS; s++)
-        for (size_t m = 0; m < sizeof COUNTS / sizeof *COUNTS; m++) {
-            struct ask a = {.call = LOOK, .plan = plan, .tray_length = LAYING};
-            a.plan_length = spread(SPREAD_STRIPS[s][0], SPREAD_STRIPS[s][1], COUNTS[m], plan);
-            each_section(&a, 1);
-            each_pair(&a, plan);
-            a.call = SMUDGED;
-            each_section(&a, 7); /* slow, so only some, with gaps of every kind */
-        }
+        for (size_t m = 0; m < sizeof COUNTS / sizeof *COUNTS; m++)
+            for (size_t entry = PAIR; entry <= RAILED; entry += RAILED - PAIR) {
+                struct ask a = {.call = LOOK, .plan = plan, .tray_length = LAYING};
+                a.plan_length = spread(SPREAD_STRIPS[s][0], SPREAD_STRIPS[s][1], COUNTS[m], plan, entry);
+                each_section(&a, 1);
+                each_pair(&a, plan);
+                a.call = SMUDGED;
+                each_section(&a, 7); /* slow, so only some, with gaps of every kind */
+            }
 }
 
-/* Every plan of up to two sections, and every one whose sections, up to six, meet from the first place to the last, on small strips: all windows */
+/* Every plan of up to two sections, and every one whose sections, up to six, meet from the first place to the last, on small strips, as an old record and
+   as one with two rails: all windows */
 
 enum { SMALL = 16, MOST_TILES = 6 };
 
@@ -597,17 +624,16 @@ static void look_everywhere(struct ask *a, uint64_t places) {
 }
 
 /* looks, then lays one more section from a place on; if sections are to meet, just there, and it looks when they reach the last place */
-static void lay_on(struct ask *a, uint8_t *plan, uint64_t from, uint64_t places, uint64_t most, int meet) {
-    uint64_t m = number_in(plan + 2, 2), last = meet ? from : places;
-    a->plan_length = 4 + 16 * (size_t)m;
+static void lay_on(struct ask *a, uint8_t *plan, size_t entry, uint64_t from, uint64_t places, uint64_t most, int meet) {
+    uint64_t m = count_in(plan), last = meet ? from : places;
+    a->plan_length = HEAD + entry * (size_t)m;
     if (!meet || from == places) look_everywhere(a, places);
     if (m == most) return;
     for (uint64_t offset = from; offset <= last; offset++)
         for (uint64_t size = plan[1]; size <= places - offset; size++) {
             put_number(plan + 2, m + 1, 2);
-            put_number(plan + 4 + 16 * m, offset, 8);
-            put_number(plan + 12 + 16 * m, size, 8);
-            lay_on(a, plan, offset + size, places, most, meet);
+            put_entry(plan, entry, m, offset, size, (offset + size) % 3 == 0 ? 65535 : 0);
+            lay_on(a, plan, entry, offset + size, places, most, meet);
         }
     put_number(plan + 2, m, 2);
 }
@@ -621,8 +647,10 @@ static void all_joints(void) {
             memset(plan, 0, sizeof plan);
             plan[0] = (uint8_t)k;
             plan[1] = (uint8_t)n;
-            lay_on(&a, plan, 0, places, 2, 0);
-            lay_on(&a, plan, 0, places, MOST_TILES, 1);
+            for (size_t entry = PAIR; entry <= RAILED; entry += RAILED - PAIR) {
+                lay_on(&a, plan, entry, 0, places, 2, 0);
+                lay_on(&a, plan, entry, 0, places, MOST_TILES, 1);
+            }
         }
 }
 
@@ -684,24 +712,25 @@ static uint64_t draw_number(uint64_t limit) {
     }
 }
 
-/* a plan that keeps the rules, if its strip is admitted */
+/* a plan that keeps the rules, if its strip is admitted; in a new record most rails are the same */
 static size_t draw_good_plan(uint64_t k, uint64_t n, uint8_t *plan) {
     uint64_t places, start = 0, m = 0, most = below(6) == 0 ? 500 : below(6), rare = 4 + most;
+    size_t entry = below(2) ? PAIR : RAILED;
     if (!admitted(k, n, &places)) places = 1000;
     if (below(2)) start = below(places);
     while (m < most && start <= places && n <= places - start) {
-        uint64_t room = places - start, size = n + below(3) * below(2 * n + 1);
+        uint64_t room = places - start, times = below(3), size = n + times * below(2 * n + 1);
         if (below(rare) == 0) size = n + below(room / 2 + 1);
         if (size > room) size = room;
-        put_number(plan + 4 + 16 * m, start, 8);
-        put_number(plan + 12 + 16 * m, size, 8);
-        start += size + below(2) * below(below(rare) == 0 ? room : n + 2);
+        put_entry(plan, entry, m, start, size, below(4) == 0 ? below(65536) : 7);
+        uint64_t gap = below(below(rare) == 0 ? room : n + 2);
+        start += size + (below(2) ? gap : 0);
         m++;
     }
     plan[0] = (uint8_t)k;
     plan[1] = (uint8_t)n;
     put_number(plan + 2, m, 2);
-    return 4 + 16 * (size_t)m;
+    return HEAD + entry * (size_t)m;
 }
 
 /* a good plan, one with a few bytes or its end changed, or junk */
@@ -713,8 +742,9 @@ static size_t draw_plan(uint64_t k, uint64_t n, uint8_t *plan) {
         for (size_t i = 0; i < length; i++) plan[i] = (uint8_t)draw();
     } else if (style == 1) {
         for (uint64_t i = 1 + below(3); i > 0; i--) plan[below(length)] = (uint8_t)draw();
-    } else if (style == 2 && length > 4) {
-        size_t at = 4 + 8 * (size_t)below((length - 4) / 8);
+    } else if (style == 2 && length > HEAD) {
+        size_t at = HEAD + entry_of(plan, length) * (size_t)below(count_in(plan));
+        if (below(2)) at += 8;
         put_number(plan + at, below(2) ? draw_any() : number_in(plan + at, 8) - n + below(2 * n + 1), 8);
     } else if (style == 3) {
         length = below(2) ? below(length) : length + 1 + below(20);
@@ -724,9 +754,9 @@ static size_t draw_plan(uint64_t k, uint64_t n, uint8_t *plan) {
 
 /* a window that is often one of the plan: at a section's start, its end or across it */
 static size_t draw_window(const uint8_t *plan, size_t length, uint8_t *window) {
-    uint64_t places, n = length >= 4 ? plan[1] : 3, k = length >= 4 ? plan[0] : 3;
-    if (plan_faults(plan, length) != 0 || length == 4 || below(4) == 0) return draw_word(k, n, window);
-    size_t at = 4 + 16 * (size_t)below((length - 4) / 16);
+    uint64_t places, n = length >= HEAD ? plan[1] : 3, k = length >= HEAD ? plan[0] : 3;
+    if (plan_faults(plan, length) != 0 || length == HEAD || below(4) == 0) return draw_word(k, n, window);
+    size_t at = HEAD + entry_of(plan, length) * (size_t)below(count_in(plan));
     uint64_t start = number_in(plan + at, 8), size = number_in(plan + at + 8, 8);
     uint64_t spots[] = {start, start + size - n, start + size - n + 1, start + below(size), start + size};
     admitted(k, n, &places);

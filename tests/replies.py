@@ -321,7 +321,7 @@ def junk_cursors(chance):
 
 def plans():
     """Those of stripwalk, but for the few that are longer than a request."""
-    for _, plan in stripwalk.plans():
+    for _, plan, _ in stripwalk.inputs():
         if len(plan) <= MOST_BYTES - 3:
             yield ask(b"p", plan)
 

@@ -9,8 +9,8 @@ import sys
 from itertools import combinations_with_replacement, product
 
 import model
-from model import LARGE, MOST_MARKS, MOST_SECTIONS, MOST_SHADES, admitted, plan_bytes, small_strips
-from vectors import bent, random_sections, spread, torn
+from model import LARGE, MOST_MARKS, MOST_SECTIONS, MOST_SHADES, OLD_ENTRY, admitted, entry_bytes, plan_bytes, plan_faults, small_strips
+from vectors import bent, random_sections, some_rails, spread, torn
 
 
 # Plans with a name
@@ -262,10 +262,24 @@ def listing(plan):
     return model.stripwalk(plan).encode()
 
 
+def with_rails(plan, chance):
+    """The new record with the sections of an old one."""
+    entries = [plan[at:at + OLD_ENTRY] for at in range(4, len(plan), OLD_ENTRY)]
+    rails = some_rails(len(entries), chance)
+    return plan[:4] + b"".join(entry + rail.to_bytes(2, "big") for entry, rail in zip(entries, rails))
+
+
 def inputs():
-    """A label, the input, and what must be written for it."""
+    """A label, the input, and what must be written for it. An old record that is not torn comes with rails too, for which the same is written, and as such
+    a record without its last byte, which is torn."""
+    chance = random.Random(20261116)
     for label, plan in plans():
         yield label, plan, listing(plan)
+        if len(plan) > 4 and entry_bytes(plan) == OLD_ENTRY and plan_faults(plan) != {7}:
+            railed = with_rails(plan, chance)
+            assert listing(railed) == listing(plan)
+            yield label + " with rails", railed, listing(plan)
+            yield label + " with a rail cut", railed[:-1], b"refused 7\n"
 
 
 if __name__ == "__main__":

@@ -179,7 +179,11 @@ static void compare_all(unsigned long line) {
     }
     if (v.answer_length != 0) compare(v.answer_length - 1, line);
     compare(v.answer_length, line);
-    if (v.call == LOOK || v.call == SMUDGED) compare(v.answer_length + 1, line);
+    if (v.call == LOOK || v.call == SMUDGED) {
+        compare(v.answer_length - 2, line); /* as long as an answer without a rail */
+        compare(v.answer_length - 3, line);
+        compare(v.answer_length + 1, line);
+    }
     compare(v.answer_length + 3, line);
     if (v.call != PICTURE) return;
     compare_sized(v.answer_length, STRIP_NUMBER - 1, line);

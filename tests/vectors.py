@@ -102,10 +102,12 @@ def cases_of_the_rules():
 
 
 def plans_of_the_rules():
+    """As old records, and with rails that are all the same, that differ, and that return."""
     for sections in ([(12, 4)], [(13, 4)], [(0, 3)], [(0, 8), (7, 5)], [], [(0, 6), (8, 8)], [(0, 8), (8, 8)], [(0, 7), (8, 8)],
                      [(0, 4), (4, 4), (8, 4)], [(0, 16)]):
-        for window in model.words(2, 4):
-            look(plan_bytes(2, 4, sections), window)
+        for rails in (None, (7, 7, 7), (7, 8, 9), (7, 8, 8), (65535, 65535, 0), (0, 1, 0)):
+            for window in model.words(2, 4):
+                look(plan_bytes(2, 4, sections, rails and rails[:len(sections)]), window)
 
 
 def smudged_of_the_rules():
@@ -264,7 +266,7 @@ def refusals():
 
 def torn(plan):
     """Records that are torn: cut, too long, with a wrong count of sections."""
-    yield from (plan[:0], plan[:1], plan[:3], plan[:-1], plan + b"\0", plan + b"\0" * 16)
+    yield from (plan[:0], plan[:1], plan[:3], plan[:-1], plan + b"\0", plan + b"\0" * 16, plan + b"\0" * 18)
     m = int.from_bytes(plan[2:4], "big")
     for other in (m + 1, m + 256, 501, 65535):
         yield plan[:2] + other.to_bytes(2, "big") + plan[4:]
@@ -279,8 +281,7 @@ def plan_refusals():
     smudged_ones = [bytes(w) for length in (3, 4, 5) for count in (0, 2, 3) for bad in ((), (2,), (254,))
                     for w in [(UNREAD,) * count + bad + (0,) * (length - count - len(bad))] if len(w) == length]
     for k, n in ((2, 4), (1, 4), (2, 0), (2, 61), (0, 0), (255, 255), (37, 1)):
-        for sections in (good, crooked, []):
-            plan = plan_bytes(k, n, sections)
+        for plan in [plan_bytes(k, n, sections, rails) for sections in (good, crooked, []) for rails in (None, [3] * len(sections))]:
             for window in windows:
                 look(plan, window)
                 for broken in torn(plan):
@@ -293,12 +294,42 @@ def plan_refusals():
     bends = ([(0, n - 1)], [(0, 0)], [(places - n + 1, n)], [(places, n)], [(places, 0)], [(0, places + 1)],
              [(2**64 - 1, n)], [(2**64 - n, n)], [(0, 2**64 - 1)], [(4, 2**64 - 4)], [(1, 2**64 - 1)], [(2**64 - 8, 8), (0, 4)],
              [(8, 4), (0, 4)], [(0, 4), (3, 4)], [(0, 4), (0, 4)], [(0, 4), (4, 4), (7, 4)], [(0, 4), (4, 3)], [(0, 8), (8, 9)])
-    for sections in bends:
+    for sections, rails in product(bends, (None, (0, 0, 0), (1, 65535, 1))):
         for window in windows:
-            look(plan_bytes(2, 4, sections), window)
+            look(plan_bytes(2, 4, sections, rails and rails[:len(sections)]), window)
+
+
+def totals():
+    """Each total that a record with up to 9 sections may have, with each count of them, and those around the totals of 499, 500 and 501."""
+    k, n = 36, 2
+    for m in list(range(10)) + [499, 500, 501]:
+        sections, rails = [(n * i, n) for i in range(m)], [i * 131 for i in range(m)]
+        sizes = range(4 + 18 * 9 + 20) if m < 10 else [4 + entry * m + more for entry in (16, 18) for more in (-2, -1, 0, 1, 2)]
+        for size in sizes:
+            old, new = plan_bytes(k, n, sections), plan_bytes(k, n, sections, rails)
+            plan = (old if size <= len(old) else new)[:size].ljust(size, b"\0")
+            for at in (0, 1, n * m - n, n * m - 1):
+                look(plan, strip_of(k, n).marks(max(0, at), n))
+            smudged(plan, smudge(strip_of(k, n).marks(0, n), 1, random.Random(size)))
 
 
 # Plans with lookups
+
+def some_rails(count, chance):
+    """Rails for so many sections: all the same, or a few that come again and again, the smallest and the largest among them."""
+    few = chance.choice(((chance.randrange(65536),), (0, 65535), (7, 8), (0, 1, 256, 65535)))
+    return [chance.choice(few) for _ in range(count)]
+
+
+def either(k, n, sections, chance):
+    """A plan as an old or as a new record."""
+    return plan_bytes(k, n, sections, chance.choice((None, some_rails(len(sections), chance))))
+
+
+def both(k, n, sections, chance):
+    """A plan as an old record and as a new one."""
+    return [plan_bytes(k, n, sections), plan_bytes(k, n, sections, some_rails(len(sections), chance))]
+
 
 def random_sections(places, n, most, chance):
     """Good sections: some touch, some have a gap, some are as short as may be."""
@@ -324,10 +355,10 @@ def small_plans(chance, many):
     for _ in range(many):
         k, n = chance.choice(strips)
         sections = random_sections(k**n, n, chance.randint(0, 6), chance)
-        plan = plan_bytes(k, n, sections)
-        for start in range(k**n):
-            look(plan, strip_of(k, n).marks(start, n))
-        broken = plan_bytes(k, n, bent(sections, n, chance))
+        for plan in both(k, n, sections, chance):
+            for start in range(k**n):
+                look(plan, strip_of(k, n).marks(start, n))
+        broken = either(k, n, bent(sections, n, chance), chance)
         for start in chance.sample(range(k**n), min(3, k**n)):
             look(broken, strip_of(k, n).marks(start, n))
 
@@ -340,7 +371,7 @@ def small_smudged(chance, many):
         half = max(n, places // 2)
         plans = [[], [(0, places)], [(0, half), (half, places - half)]] + [random_sections(places, n, chance.randint(1, 4), chance) for _ in range(many)]
         for sections in plans:
-            plan = plan_bytes(k, n, sections)
+            plan = either(k, n, sections, chance)
             for window in windows:
                 smudged(plan, window)
 
@@ -368,24 +399,25 @@ def joints(chance, most):
         if n == 1 and k > 6:
             continue
         for sections in list(two_sections(n, places)) + list(tiles(n, 0, places, 6)):
-            plan = plan_bytes(k, n, sections)
-            for at in range(places):
-                look(plan, strip.marks(at, n))
-            smudged(plan, smudge(strip.marks(chance.randrange(places), n), 1, chance))
+            for plan in both(k, n, sections, chance):
+                for at in range(places):
+                    look(plan, strip.marks(at, n))
+                smudged(plan, smudge(strip.marks(chance.randrange(places), n), 1, chance))
 
 
 def large_joints(chance):
-    """500 sections welded in pairs: at each section a window that ends behind it, some of them smudged too."""
+    """500 sections that meet in pairs: at each section a window that ends behind it, some of them smudged too."""
     for k, n in ((2, 60), (36, 11)):
         strip = strip_of(k, n)
         room = strip.places // 500
         sections = [(i * room, room - i % 2 * chance.randint(1, 2 * n)) for i in range(500)]
-        plan = plan_bytes(k, n, sections)
+        plans = both(k, n, sections, chance)
         for i, (offset, length) in enumerate(sections):
             window = strip.marks((offset + length - chance.randint(1, n - 1)) % strip.places, n)
-            look(plan, window)
+            for plan in plans:
+                look(plan, window)
             if i % 10 < 2:
-                smudged(plan, smudge(window, 1, chance))
+                smudged(chance.choice(plans), smudge(window, 1, chance))
 
 
 def smudge(window, count, chance):
@@ -401,7 +433,7 @@ def large_smudged(chance, many):
         strip = strip_of(k, n)
         for m in (1, 500):
             sections = spread(strip.places, n, m, chance)
-            plan = plan_bytes(k, n, sections)
+            plan = either(k, n, sections, chance)
             for count in range(4):
                 for _ in range(many if k**count <= 200 else 1 + many // 4):
                     offset, length = chance.choice(sections)
@@ -420,12 +452,12 @@ def large_plans(chance, many):
         strip = strip_of(k, n)
         for m in (1, 2, 255, 256, 257, 499, 500):
             sections = spread(strip.places, n, m, chance)
-            plan = plan_bytes(k, n, sections)
+            plan = either(k, n, sections, chance)
             for _ in range(many):
                 offset, length = chance.choice(sections)
                 at = chance.choice((offset, offset + length - n, offset + length - n + 1, offset + length - 1, offset + chance.randrange(length)))
                 look(plan, strip.marks(at % strip.places, n))
-            look(plan_bytes(k, n, bent(sections, n, chance)), strip.marks(0, n))
+            look(either(k, n, bent(sections, n, chance), chance), strip.marks(0, n))
             look(plan, strip.marks(strip.places - 1, n))
 
 
@@ -440,18 +472,18 @@ def one_broken(sections, j, n, places):
             yield sections[:j] + [pair] + sections[j + 1:]
 
 
-def few_sections():
+def few_sections(chance):
     """Plans without sections, with one, two and three: every place looked up, and each pair broken."""
     for k, n in ((2, 5), (3, 3), (36, 1)):
         places, strip = k**n, strip_of(k, n)
         for m in range(4):
             for gap in (0, 1, n):
                 sections = [(i * (places // m), places // m - gap) for i in range(m)]
-                for at in range(places):
-                    look(plan_bytes(k, n, sections), strip.marks(at, n))
+                for plan, at in product(both(k, n, sections, chance), range(places)):
+                    look(plan, strip.marks(at, n))
                 for j in range(m):
                     for crooked in one_broken(sections, j, n, places):
-                        look(plan_bytes(k, n, crooked), strip.marks(0, n))
+                        look(either(k, n, crooked, chance), strip.marks(0, n))
 
 
 def broken_among_500(chance):
@@ -460,7 +492,7 @@ def broken_among_500(chance):
         sections = spread(strip.places, n, 500, chance)
         for j in (0, 1, 249, 250, 498, 499):
             for crooked in one_broken(sections, j, n, strip.places):
-                look(plan_bytes(k, n, crooked), strip.marks(0, n))
+                look(either(k, n, crooked, chance), strip.marks(0, n))
 
 
 def main():
@@ -473,6 +505,7 @@ def main():
     cases_of_document_004()
     refusals()
     plan_refusals()
+    totals()
     for k, n in small_strips(most):
         assert admitted(k, n)
         whole_strip(k, n)
@@ -482,7 +515,7 @@ def main():
     large_plans(chance, 6)
     small_smudged(chance, 2)
     large_smudged(chance, 6)
-    few_sections()
+    few_sections(chance)
     broken_among_500(chance)
     joints(chance, 16)
     large_joints(chance)

@@ -1,6 +1,7 @@
 -- The promise, whole.
 use Rattle.theory.proofs.Theorems.{theorems}
 use Rattle.pbm.proofs.Pictures.{pictures}
+use Rattle.listing.proofs.Alike.{same-listing}
 use Rattle.demands.specs.Demands.{Demands}
 use Rattle.demands.proofs.Trays.{trays, no-value, no-value-beside, number-back}
 use Rattle.demands.proofs.Refused.{refusals}
@@ -44,6 +45,7 @@ demands = record {
   undone = undone;
   walk = walk;
   both-ways = both-ways;
+  same-listing = same-listing;
   laid = laid;
   laid-across = laid-across;
   laid-only = laid-only;

@@ -2,39 +2,50 @@
 use mathlib.Core.Path.{_≡_, refl, sym, _∙_, ap, ap₂, subst, subst₂}
 use mathlib.Core.Bool.{true, not}
 use mathlib.Core.List.{List, []}
-use Prim.Native.Nat.{ℕ, suc, _+_, _-_, _^_, _≤_, _<_}
+use Prim.Native.Nat.{ℕ, suc, _+_, _-_, _*_, _^_, _≤_, _<_}
 use native.Mathlib.Omega.{arith}
 use native.Mathlib.Decide.{ℕ-discrete}
 use lib.Dec.{eqb}
 use lib.ListN.{length, drop}
-use Rattle.theory.specs.Words.{pick, keep}
+use Rattle.theory.specs.Words.{pick, keep, marksOk}
 use Rattle.theory.specs.Strips.{window, placeOf}
-use Rattle.theory.specs.Plans.{be, shades, marks, sectionCount, sections, welded, nthS, planFault, layingAt, laidAt, distanceAt, lookupFault, layingOf, distanceOf}
+use Rattle.theory.specs.Plans.{be, shades, marks, sectionCount, sections, welded, nthS, planFault, railOf, layingAt, laidAt, distanceAt, lookupFault, layingOf, distanceOf}
 use Rattle.theory.specs.Theorems.{Lies}
 use Rattle.theory.specs.Erasures.{unread, agrees, smudgedFault}
 use Rattle.theory.proofs.Rings.{one-place}
 use Rattle.theory.proofs.Faults.{first-none, when-none, word-fine}
+use Rattle.theory.proofs.Records.{old, new, size-of, own-rail, written-rail}
 use Rattle.theory.proofs.Laying as theory
 use Rattle.theory.proofs.Erasures.{fitting-in, in-fitting, fits-fine, fault-full, fitting-full}
 use Rattle.buffers.specs.Buffers.{over}
-use Rattle.numbers.proofs.Numbers.{put-read}
+use Rattle.numbers.proofs.Numbers.{put-read, be-small}
 use Rattle.shape.proofs.Limits.{admitted-limits}
 use Rattle.calls.specs.Answers.{Into}
 use Rattle.calls.proofs.Answers.{into-given}
-use Rattle.sections.proofs.Whole.{accepted-whole}
 use Rattle.lookups.specs.Says.{answerAt, answerSize, LookupSays, SmudgedSays}
-use Rattle.demands.specs.Demands.{Section-told}
+use Rattle.demands.specs.Demands.{Rail-told, Section-told}
 use Rattle.demands.proofs.Trays.{into-fine, answered, answers, smudged-picked, smudged-refusal, smudged-answers}
+
+-- a rail fits in its two bytes: one that was read, or a section's number
+rail-small : (s : List ℕ) (i : ℕ) → planFault s ≡ 0 → i < sectionCount s → marksOk 256 s ≡ true → railOf s i < 256 ^ 2
+rail-small s i good inside bytes =
+    elim (size-of s) [
+      | old _ size ↦ omega (arith, own-rail s i size, theory.accepted-whole s good .few)
+      | new _ size ↦ omega (arith, written-rail s i size inside, be-small (4 + 18 * i + 16) 2 s bytes)
+    ]
 
 -- the answer for a laid window, read back: few sections, and no place above 2^60
 module _ (s : List ℕ) (p : ℕ) (good : planFault s ≡ 0) (laid : laidAt s p ≡ true) (t : List ℕ) {t′ : List ℕ} (tray : t′ ≡ over (answerAt s p) t) where
   section-back : be 0 2 t′ ≡ layingAt s p - 1
-  section-back = ap (be 0 2) tray ∙ put-read 2 (layingAt s p - 1) (omega (arith, theory.laid-at s p good laid .0, accepted-whole s good .few))
+  section-back = ap (be 0 2) tray ∙ put-read 2 (layingAt s p - 1) (omega (arith, theory.laid-at s p good laid .0, theory.accepted-whole s good .few))
 
   distance-back : be 2 8 t′ ≡ distanceAt s p
   distance-back =
       let (_, is, ends) = theory.laid-at s p good laid in
       ap (be 2 8) tray ∙ put-read 8 (distanceAt s p) (omega (arith, is, ends, admitted-limits (shades s) (marks s) (theory.plan-good s good .1) .range))
+
+  rail-back : Rail-told s (layingAt s p - 1) t′
+  rail-back bytes = ap (be 10 2) tray ∙ put-read 2 (railOf s (layingAt s p - 1)) (rail-small s (layingAt s p - 1) good (theory.laid-at s p good laid .0) bytes)
 
   place-back : nthS (sections s) (be 0 2 t′) .offset + be 2 8 t′ ≡ p
   place-back = ap₂ (λ i d. nthS (sections s) i .offset + d) section-back distance-back ∙ theory.laid-at s p good laid .1
@@ -48,7 +59,13 @@ told s i d good (fine, laying, distance) t t′ r room e =
     let p = placeOf (shades s) (marks s) w in
     let (number, tray) = into-fine (lookupFault s w) (answerAt s p) t fine room e in
     let there = theory.some-laid s p (λ z. omega (arith, laying)) in
-    (number, section-back s p good there t tray ∙ omega (arith, laying), distance-back s p good there t tray ∙ distance, ap (drop answerSize) tray)
+    let is : layingOf s w - 1 ≡ i = omega (arith, laying) in (
+      number,
+      section-back s p good there t tray ∙ is,
+      distance-back s p good there t tray ∙ distance,
+      subst (λ j. Rail-told s j t′) is (rail-back s p good there t tray),
+      ap (drop answerSize) tray,
+    )
 
 pub laid : (s : List ℕ) (i d : ℕ) → planFault s ≡ 0 → i < sectionCount s → d + marks s ≤ nthS (sections s) i .long → Section-told s i d
 laid s i d good h fits = told s i d good (theory.laid s i d good h fits)
@@ -60,7 +77,7 @@ laid-across s i d good h weld begins = told s i d good (theory.laid-across s i d
 pub laid-only : (s w t t′ : List ℕ) (r : ℕ) → LookupSays s w t t′ r → r ≡ 0
     → let i = be 0 2 t′ in
     let p = nthS (sections s) i .offset + be 2 8 t′ in
-    (i < sectionCount s) × Lies (marks s) (sections s) i p × (window (shades s) (marks s) p ≡ w)
+    (i < sectionCount s) × Lies (marks s) (sections s) i p × (window (shades s) (marks s) p ≡ w) × Rail-told s i t′
 laid-only s w t t′ r e z =
     let p = placeOf (shades s) (marks s) w in
     let (fine, _, over-it) = answered (lookupFault s w) (pick (eqb (lookupFault s w) 0) (answerAt s p) []) t e z in
@@ -73,7 +90,12 @@ laid-only s w t t′ r e z =
     let lim = admitted-limits (shades s) (marks s) (theory.plan-good s good .1) in
     let (long, letters) = word-fine (shades s) (marks s) w word in
     let reads = one-place .found (shades s) (marks s) w (lim .two) (lim .some) long letters .1 in
-    (omega (arith, number, inside), subst₂ (Lies (marks s) (sections s)) (sym number) (sym place) lies, ap (window (shades s) (marks s)) place ∙ reads)
+    let rail = rail-back s p good there t tray in (
+      omega (arith, number, inside),
+      subst₂ (Lies (marks s) (sections s)) (sym number) (sym place) lies,
+      ap (window (shades s) (marks s)) place ∙ reads,
+      subst (λ i. Rail-told s i t′) (sym number) rail,
+    )
 
 -- a smudged window: if a laid one agrees, one is answered
 pub smudged : (s w : List ℕ) (p : ℕ) (t t′ : List ℕ) (r : ℕ) → planFault s ≡ 0 → p < shades s ^ marks s → laidAt s p ≡ true
@@ -87,7 +109,8 @@ module _ (s w t t′ : List ℕ) (r : ℕ) (e : SmudgedSays s w t t′ r) where
   pub smudged-only : r ≡ 0
       → let i = be 0 2 t′ in
       let p = nthS (sections s) i .offset + be 2 8 t′ in
-      (i < sectionCount s) × (layingAt s p ≡ suc i) × (agrees w (window (shades s) (marks s) p) ≡ true) × (drop answerSize t′ ≡ drop answerSize t)
+      (i < sectionCount s) × (layingAt s p ≡ suc i) × (agrees w (window (shades s) (marks s) p) ≡ true) × Rail-told s i t′
+      × (drop answerSize t′ ≡ drop answerSize t)
   smudged-only z =
       let fine : smudgedFault s w ≡ 0 = elim (smudged-answers s w t t′ r e) [ answers b _ x ↦ answered (smudgedFault s w) (pick (eqb (smudgedFault s w) 0) b []) t x z .0 ] in
       let x = smudged-picked s w t t′ r e fine in
@@ -102,6 +125,7 @@ module _ (s w t t′ : List ℕ) (r : ℕ) (e : SmudgedSays s w t t′ r) where
         omega (arith, number, few),
         ap (layingAt s) place ∙ omega (arith, number, some),
         ap (λ q. agrees w (window (shades s) (marks s) q)) place ∙ agree,
+        subst (λ i. Rail-told s i t′) (sym number) (rail-back s p good there t tray),
         ap (drop answerSize) tray,
       )
 

@@ -9,7 +9,7 @@ use lib.ListN.{length, getD, take, drop, replicate}
 use Rattle.theory.specs.Words.{below, upTo, turned, repeated, powerTo, keep, marksOk, isLyndon, howMany, rank, wordOf}
 use Rattle.theory.specs.Rings.{modulo, pathEnd, pathLetters}
 use Rattle.theory.specs.Strips.{admitted, strip, markAt, marksFrom, window, placeIn}
-use Rattle.theory.specs.Plans.{be, shades, marks, sectionCount, sections, welded, nthS, planFault, layingAt, laidAt}
+use Rattle.theory.specs.Plans.{be, shades, marks, sectionCount, sections, welded, nthS, planFault, railOf, layingAt, laidAt}
 use Rattle.theory.specs.Erasures.{unread, agrees}
 use Rattle.theory.specs.Theorems.{Lies, Theorems}
 use Rattle.buffers.specs.Buffers.{over}
@@ -25,6 +25,7 @@ use Rattle.pbm.specs.Parts.{Frame, partsRoom}
 use Rattle.pictures.specs.Says.{PictureSays, BothSay}
 use Rattle.pictures.specs.Requests.{pictureFor, PartsSay}
 use Rattle.lookups.specs.Says.{answerSize, LookupSays, SmudgedSays}
+use Rattle.listing.specs.Listings.{Same-listing}
 use Rattle.cursors.specs.declared.Cursor as DC
 use Rattle.cursors.specs.declared.Started as DS
 use Rattle.cursors.specs.declared.Stepped as DT
@@ -39,11 +40,15 @@ pub record Turn-told (w : List ℕ) (v : ℕ) : Type 0 where
   pub lowest : (i : ℕ) → upTo (turned v w) (turned i w) ≡ true
   pub first : (j : ℕ) → j < v → turned j w ≢ turned v w
 
--- look_up on the window at distance d in section i writes that section and that distance, and no byte after them
+-- the rail in an answer's last two bytes is that of section i. A plan is any list here; a rail is read back if the list is bytes
+abbrev pub Rail-told : List ℕ → ℕ → List ℕ → Type 0
+Rail-told s i t′ = marksOk 256 s ≡ true → be 10 2 t′ ≡ railOf s i
+
+-- look_up on the window at distance d in section i writes that section, that distance and the section's rail, and no byte after them
 abbrev pub Section-told : List ℕ → ℕ → ℕ → Type 0
 Section-told s i d =
     (t t′ : List ℕ) (r : ℕ) → answerSize ≤ length t → LookupSays s (window (shades s) (marks s) (nthS (sections s) i .offset + d)) t t′ r
-    → (r ≡ 0) × (be 0 2 t′ ≡ i) × (be 2 8 t′ ≡ d) × (drop answerSize t′ ≡ drop answerSize t)
+    → (r ≡ 0) × (be 0 2 t′ ≡ i) × (be 2 8 t′ ≡ d) × Rail-told s i t′ × (drop answerSize t′ ≡ drop answerSize t)
 
 pub record Demands : Type 0 where
   pub theorems : Theorems
@@ -130,7 +135,9 @@ pub record Demands : Type 0 where
       → StartSays k n p r → Followed Says (r .cursor) ways qs d → WhereSays d v
       → (r .number ≡ 0) × (fields (λ q. q .number) qs ≡ replicate (length qs) 0) × (fields (λ q. q .mark) qs ≡ pathLetters (k ^ n) (strip k n) ways p)
       × (fields (λ q. q .passed) qs ≡ pathPassed k n ways p) × (v .number ≡ 0) × (v .value ≡ pathEnd (k ^ n) ways p)
-  -- Plans: look_up tells section and distance of each window that is read wholly inside a section of an accepted plan
+  -- Plans: what stripwalk prints does not depend on the record, nor on rails
+  pub same-listing : Same-listing
+  -- look_up tells section, distance and rail of each window that is read wholly inside a section of an accepted plan
   pub laid : (s : List ℕ) (i d : ℕ) → planFault s ≡ 0 → i < sectionCount s → d + marks s ≤ nthS (sections s) i .long → Section-told s i d
   -- and, where the joint to the next section is welded, of each window that begins in the section, across the joint too
   pub laid-across : (s : List ℕ) (i d : ℕ) → planFault s ≡ 0 → suc i < sectionCount s → welded (nthS (sections s) i) (nthS (sections s) (suc i)) ≡ true
@@ -139,7 +146,7 @@ pub record Demands : Type 0 where
   pub laid-only : (s w t t′ : List ℕ) (r : ℕ) → LookupSays s w t t′ r → r ≡ 0
       → let i = be 0 2 t′ in
       let p = nthS (sections s) i .offset + be 2 8 t′ in
-      (i < sectionCount s) × Lies (marks s) (sections s) i p × (window (shades s) (marks s) p ≡ w)
+      (i < sectionCount s) × Lies (marks s) (sections s) i p × (window (shades s) (marks s) p ≡ w) × Rail-told s i t′
   -- Smudged windows: look_up_smudged answers if some laid window agrees with what was read, and at most two marks were not. Which one it picks is free, so
   -- the third demand's last sentence, section and distance of the window that was read, holds here for windows read in full: `smudged-plain`, with `laid`
   pub smudged : (s w : List ℕ) (p : ℕ) (t t′ : List ℕ) (r : ℕ) → planFault s ≡ 0 → p < shades s ^ marks s → laidAt s p ≡ true
@@ -148,6 +155,7 @@ pub record Demands : Type 0 where
   pub smudged-only : (s w t t′ : List ℕ) (r : ℕ) → SmudgedSays s w t t′ r → r ≡ 0
       → let i = be 0 2 t′ in
       let p = nthS (sections s) i .offset + be 2 8 t′ in
-      (i < sectionCount s) × (layingAt s p ≡ suc i) × (agrees w (window (shades s) (marks s) p) ≡ true) × (drop answerSize t′ ≡ drop answerSize t)
+      (i < sectionCount s) × (layingAt s p ≡ suc i) × (agrees w (window (shades s) (marks s) p) ≡ true) × Rail-told s i t′
+      × (drop answerSize t′ ≡ drop answerSize t)
   -- of a window that was read in full it answers what look_up does, byte for byte
   pub smudged-plain : (s w t t′ : List ℕ) (r : ℕ) → keep unread w ≡ [] → SmudgedSays s w t t′ r → LookupSays s w t t′ r

@@ -2,3 +2,4 @@
 pub mod Building
 pub mod Sections
 pub mod Openings
+pub mod Alike

@@ -6,7 +6,8 @@ use native.Mathlib.Omega.{arith}
 use borrow.Author.Tests.{eq-eqb, ne-eqb}
 use Rattle.theory.specs.Words.{pick}
 use Rattle.theory.specs.Plans.{shades, marks, sectionCount, sections, nthS, planFault}
-use Rattle.theory.proofs.Laying.{plan-good, sections-count, straight-at}
+use Rattle.theory.proofs.Records.{sections-count}
+use Rattle.theory.proofs.Laying.{section-straight}
 use Rattle.shape.specs.declared.Strip as DS
 use Rattle.shape.proofs.Limits.{limits}
 use Rattle.calls.specs.declared.Checked.{Checked}
@@ -19,8 +20,7 @@ use Rattle.listing.specs.Listings.{stripLine, sectionLines, refusedLine,
 module _ (s : List ℕ) {x : DS.Strip} (plan : Accepted s x) where
   pub section-starts : (i : ℕ) → i < sectionCount s → nthS (sections s) i .offset < x .size
   section-starts i h =
-      let (_, _, straight) = plan-good s (plan .faultless) in
-      let y = straight-at (marks s) (shades s ^ marks s) 0 (sections s) i straight (omega (arith, sections-count s)) in
+      let y = section-straight s (plan .faultless) i (omega (arith, sections-count s)) in
       let size : x .size ≡ shades s ^ marks s = plan .shaped .size ∙ ap₂ _^_ (plan .letters) (plan .marked) in
       omega (arith, y .ends, y .wide, plan .marked, limits (plan .shaped) .some, size)
 

@@ -1,10 +1,12 @@
 -- The listing of a plan: everything that the program `stripwalk` prints for the bytes of a plan.
+use mathlib.Core.Path.{_≡_}
 use mathlib.Core.List.{List, [], _∷_, _++_}
 use Prim.Native.Nat.{ℕ, suc, _*_, _^_}
 use lib.Dec.{eqb}
 use Rattle.theory.specs.Words.{pick}
 use Rattle.theory.specs.Strips.{window}
 use Rattle.theory.specs.Plans.{Section, shades, marks, sections, planFault}
+use Rattle.theory.specs.Theorems.{Alike}
 use Rattle.texts.specs.Texts.{decimal, glyphs, fields}
 
 -- the words strip and refused
@@ -34,6 +36,10 @@ listing s =
     (eqb (planFault s) 0)
     (stripLine (shades s) (marks s) ++ sectionLines (shades s) (marks s) 0 (sections s))
     (refusedLine (planFault s))
+
+-- no rail is printed: plans with the same strip and sections have one listing, whichever records they are
+abbrev pub Same-listing : Type 0
+Same-listing = (s r : List ℕ) → Alike s r → listing s ≡ listing r
 
 -- bytes that hold any line, and any listing: a plan has at most 500 sections
 abbrev pub line : ℕ

@@ -8,7 +8,7 @@ use lib.Dec.{eqb}
 use borrow.Author.Tests.{ne-eqb}
 use Rattle.theory.specs.Words.{firstOf, when}
 use Rattle.theory.specs.Strips.{placeOf, stripFault}
-use Rattle.theory.specs.Plans.{shades, marks, sections, sectionCount, nthS, planFault, wordFault, layingAt, laidAt, layingOf, lookupFault}
+use Rattle.theory.specs.Plans.{shades, marks, sections, sectionCount, nthS, planFault, wordFault, layingAt, laidAt, distanceAt, railOf, layingOf, lookupFault}
 use Rattle.theory.proofs.Faults.{first-some, first-none, word-fine}
 use Rattle.theory.proofs.Laying.{some-laid, laid-at}
 use Rattle.numbers.specs.Numbers.{putBe}
@@ -75,7 +75,7 @@ module _ {s w : List ℕ} {x : DS.Strip} {p l : ℕ} (looked : Looked s w x p l)
     pub laid-there : LaidIn s p l
     laid-there = record { faultless = looked .plan .faultless; section = looked .found; some = omega arith }
 
--- a window that is laid: its section, and the answer's bytes by the section's offset o
+-- a window that is laid: its section, and the answer's bytes by the section's offset o and rail r
 module _ {s : List ℕ} {p l : ℕ} (h : LaidIn s p l) where
   laid : laidAt s p ≡ true
   laid = some-laid s p (λ z. omega (arith, h .section, h .some))
@@ -90,5 +90,7 @@ module _ {s : List ℕ} {p l : ℕ} (h : LaidIn s p l) where
     pub starts-before : o ≤ p
     starts-before = omega (arith, offset-is, laid-at s p (h .faultless) laid .1)
 
-    pub bytes-are : putBe 2 (l - 1) ++ putBe 8 (p - o) ≡ answerAt s p
-    bytes-are = ap₂ (λ i d. putBe 2 (i - 1) ++ putBe 8 d) (h .section) (ap (λ i. p - i) offset-is)
+    pub bytes-are : {r : ℕ} → r ≡ railOf s (l - 1) → (putBe 2 (l - 1) ++ putBe 8 (p - o)) ++ putBe 2 r ≡ answerAt s p
+    bytes-are {r} rail =
+        ap₂ (λ d r. (putBe 2 (l - 1) ++ putBe 8 d) ++ putBe 2 r) (ap (λ i. p - i) offset-is) rail
+        ∙ ap (λ i. (putBe 2 (i - 1) ++ putBe 8 (distanceAt s p)) ++ putBe 2 (railOf s (i - 1))) (h .section)

@@ -6,7 +6,7 @@ use lib.Dec.{eqb}
 use Rattle.theory.specs.Words.{pick, pickT}
 use Rattle.theory.specs.Lists.{In}
 use Rattle.theory.specs.Strips.{placeOf}
-use Rattle.theory.specs.Plans.{shades, marks, planFault, layingAt, distanceAt, lookupFault}
+use Rattle.theory.specs.Plans.{shades, marks, planFault, layingAt, distanceAt, railOf, lookupFault}
 use Rattle.theory.specs.Erasures.{fitting, smudgedFault}
 use Rattle.numbers.specs.Numbers.{putBe}
 use Rattle.calls.specs.Answers.{Into}
@@ -15,12 +15,12 @@ use Rattle.calls.specs.Answers.{Into}
 abbrev pub PlanSays : List ℕ → ℕ → Type 0
 PlanSays s r = r ≡ planFault s
 
--- the answer for the laid window at a place: the section's number in 2 bytes and the distance in 8
+-- the answer for the laid window at a place: the section's number in 2 bytes, the distance in 8, the section's rail in 2
 abbrev pub answerAt : List ℕ → ℕ → List ℕ
-answerAt s p = putBe 2 (layingAt s p - 1) ++ putBe 8 (distanceAt s p)
+answerAt s p = let i = layingAt s p - 1 in (putBe 2 i ++ putBe 8 (distanceAt s p)) ++ putBe 2 (railOf s i)
 
 abbrev pub answerSize : ℕ
-answerSize = 10
+answerSize = 12
 
 -- a window that was read in full: the answer for its place
 abbrev pub LookupSays : List ℕ → List ℕ → List ℕ → List ℕ → ℕ → Type 0

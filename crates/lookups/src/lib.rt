@@ -8,10 +8,12 @@ use calls::refusals;
 use fitting::Fit;
 use shape::Strip;
 
-// The answer's bytes: the section's number in 2, then the distance in 8.
-const SECTION: usize = 2;
+// The answer's bytes: the section's number in 2, the distance in 8, the rail in 2; where the last two begin, and how many there are.
+const DISTANCE: usize = 2;
 
-const ANSWER: usize = 10;
+const RAIL: usize = 10;
+
+const ANSWER: usize = 12;
 
 // The answer for the window at a place into the tray; 6 if the tray is too small. `laying` is the section's number, plus 1.
 fn give(plan: &[u8], place: u64, laying: u64, tray: &mut [u8]) -> u8
@@ -24,7 +26,8 @@ fn give(plan: &[u8], place: u64, laying: u64, tray: &mut [u8]) -> u8
     let section = laying - 1;
     let distance = place - sections::section_at(plan, section).offset;
     numbers::put16(section, tray);
-    numbers::put64(distance, &mut tray[SECTION..]);
+    numbers::put64(distance, &mut tray[DISTANCE..]);
+    numbers::put16(sections::rail_of(plan, section), &mut tray[RAIL..]);
     0
 }
 
@@ -56,7 +59,7 @@ fn look_in(plan: &[u8], strip: Strip, window: &[u8], tray: &mut [u8]) -> u8
     }
 }
 
-// The section that a window is read in, and its distance from the section's start.
+// The section that a window is read in, its distance from the section's start, and the section's rail.
 pub fn look_up(plan: &[u8], window: &[u8], tray: &mut [u8]) -> u8
     ensures { λ r. ⌜ LookupSays (now (plan .entry)) (now (window .entry)) (now (tray .entry)) (now (tray .exit)) r ⌝ }
 {
@@ -81,7 +84,7 @@ fn fit_in(plan: &[u8], strip: Strip, window: &[u8], tray: &mut [u8]) -> u8
     }
 }
 
-// The section and the distance of some laid window that agrees at every mark that was read; byte 255 is one that was not, and there may be two.
+// Section, distance and rail of some laid window that agrees at every mark that was read; byte 255 is one that was not, and there may be two.
 pub fn look_up_smudged(plan: &[u8], window: &[u8], tray: &mut [u8]) -> u8
     ensures { λ r. ⌜ SmudgedSays (now (plan .entry)) (now (window .entry)) (now (tray .entry)) (now (tray .exit)) r ⌝ }
 {

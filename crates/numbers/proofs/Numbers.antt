@@ -1,12 +1,15 @@
 -- Numbers in bytes, the highest first: a number written is the number read, and one is read byte by byte or in two parts.
-use mathlib.Core.Path.{_≡_, refl, _∙_, ap}
+use mathlib.Core.Path.{_≡_, refl, sym, _∙_, ap}
+use mathlib.Core.Bool.{true}
 use mathlib.Core.List.{List, [], _∷_, _++_}
 use Prim.Native.Nat.{ℕ, zero, suc, _+_, _*_, _/_, _%_, _^_, _≤_, _<_}
 use native.Mathlib.Omega.{arith}
-use native.Mathlib.Nat.{div-add-mod', div-lt-iff-lt-mul, pow-zero, pow-succ', add-zero, add-suc, mul-assoc}
+use native.Mathlib.Nat.{div-add-mod', div-lt-iff-lt-mul, pow-zero, pow-succ', add-zero, add-suc, mul-assoc, mul-le-mul-left, mul-le-mul-right, one-le-pow}
 use lib.ListN.{length, getD, take, drop, length-append, length-drop}
 use lib.Seq.{take-suc, getD-drop}
+use Rattle.theory.specs.Words.{marksOk}
 use Rattle.theory.specs.Plans.{beFrom, be}
+use Rattle.theory.proofs.Letters.{marks-drop, marks-head, marks-tail}
 use Rattle.numbers.specs.Numbers.{putBe}
 
 pub put-length : (n v : ℕ) → length (putBe n v) ≡ n
@@ -43,3 +46,15 @@ be-join i m (suc n) s h =
     let c : i + (m + n) ≡ i + m + n = omega arith in
     let d : getD s (i + (m + n)) 0 ≡ getD s (i + m + n) 0 = ap (λ j. getD s j 0) c in
     ap (λ j. be i j s) (add-suc m n) ∙ omega (arith, a, b, d, p, be-join i m n s (omega arith))
+
+-- n bytes make a number below 256^n, behind a number v one below (v + 1) * 256^n
+from-small : (v n : ℕ) (bs : List ℕ) → marksOk 256 bs ≡ true → beFrom v (take n bs) < (v + 1) * 256 ^ n
+from-small v zero bs ok = omega (arith, pow-zero 256)
+from-small v (suc n) [] ok = omega (arith, mul-le-mul-left (v + 1) (one-le-pow (suc n) 256 (omega arith)))
+from-small v (suc n) (b ∷ bs) ok =
+    let more : 256 * v + b + 1 ≤ (v + 1) * 256 = omega (arith, marks-head 256 b bs ok) in
+    let top : (v + 1) * 256 * 256 ^ n ≡ (v + 1) * 256 ^ suc n = mul-assoc (v + 1) 256 (256 ^ n) ∙ ap (λ x. (v + 1) * x) (sym (pow-succ' 256 n)) in
+    omega (arith, from-small (256 * v + b) n bs (marks-tail 256 b bs ok), mul-le-mul-right (256 ^ n) more, top)
+
+pub be-small : (i n : ℕ) (s : List ℕ) → marksOk 256 s ≡ true → be i n s < 256 ^ n
+be-small i n s ok = omega (arith, from-small 0 n (drop i s) (marks-drop 256 i s ok))

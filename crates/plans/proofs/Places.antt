@@ -1,16 +1,17 @@
 -- The section of a place: sections are sorted, so bisection finds how many begin at the place or before it; only the last of these can hold the window.
-use mathlib.Core.Path.{_≡_, sym, _∙_, ap, subst}
+use mathlib.Core.Path.{_≡_, sym, _∙_, ap, ap₂, subst}
+use mathlib.Core.Bool.{true, false, false≢true}
 use mathlib.Core.List.{List}
 use mathlib.Core.Logic.{_⊎_, ⊎-elim}
 use Prim.Native.Nat.{ℕ, suc, _+_, _-_, _^_, _≤_, _<_}
 use native.Mathlib.Omega.{arith}
 use lib.ListN.{length}
-use Rattle.theory.specs.Plans.{Section, endOf, shades, marks, sectionCount, sections, planFault, layingAt, nthS}
+use Rattle.theory.specs.Plans.{Section, endOf, shades, marks, sectionCount, sections, planFault, welded, layingAt, nthS}
 use Rattle.theory.specs.Theorems.{Across, Lies}
 use Rattle.theory.proofs.Base.{less, equal, more, cmp}
-use Rattle.theory.proofs.Laying.{plan-good, sections-count, section-straight, section-apart, weld-meets, meets-weld, lies-inside, lies-across, lies-laying, unlaid}
+use Rattle.theory.proofs.Records.{sections-count}
+use Rattle.theory.proofs.Laying.{plan-good, accepted-whole, section-straight, section-apart, lies-inside, lies-across, lies-laying, unlaid}
 use Rattle.shape.proofs.Limits.{admitted-limits}
-use Rattle.sections.proofs.Whole.{accepted-whole}
 use Rattle.plans.specs.Begun.{Between, Begun}
 
 -- sections of an accepted plan
@@ -54,21 +55,24 @@ module _ (s : List ℕ) (good : planFault s ≡ 0) where
     pub nowhere : Begun p (sections s) 0 → layingAt s p ≡ 0
     nowhere begun = unlaid s p (λ i l. absurd (omega (arith, l .starts, begun .behind i (omega arith) (l .listed))))
 
-    -- of the r sections that begin at p or before it, the last, number i, is looked at; it ends at `end`
-    pub record Looked (r end : ℕ) : Type 0 where
+    -- of the r sections that begin at p or before it, the last, x of number i, is looked at
+    pub record Looked (r : ℕ) (x : Section) : Type 0 where
       i : ℕ
       all : r ≡ suc i
       begun : Begun p (sections s) (suc i)
-      ends : endOf (nthS (sections s) i) ≡ end
+      is : x ≡ nthS (sections s) i
 
-    pub look : {r : ℕ} {x : Section} → Begun p (sections s) r → 1 ≤ r → x ≡ nthS (sections s) (r - 1) → Looked r (endOf x)
+    pub look : {r : ℕ} {x : Section} → Begun p (sections s) r → 1 ≤ r → x ≡ nthS (sections s) (r - 1) → Looked r x
     look {r} begun some is =
         let all : r ≡ suc (r - 1) = omega arith in
-        record { i = r - 1; all = all; begun = subst (Begun p (sections s)) all begun; ends = ap endOf (sym is) }
+        record { i = r - 1; all = all; begun = subst (Begun p (sections s)) all begun; is = is }
 
-    module _ {r end : ℕ} (l : Looked r end) where
+    module _ {r : ℕ} {x : Section} (l : Looked r x) where
       abbrev i : ℕ
       i = l .i
+
+      ends : endOf x ≡ endOf (nthS (sections s) i)
+      ends = ap endOf (l .is)
 
       starts : nthS (sections s) i .offset ≤ p
       starts = l .begun .before i (omega arith)
@@ -85,31 +89,30 @@ module _ (s : List ℕ) (good : planFault s ≡ 0) where
       none : ¬ Lies (marks s) (sections s) i p → layingAt s p ≡ 0
       none not-there = unlaid s p (λ j lies. not-there (subst (λ m. Lies (marks s) (sections s) m p) (only lies) lies))
 
-      pub end-fits : end ≤ 2 ^ 60
-      end-fits = omega (arith, l .ends, section-ends i (omega (arith, l .begun .within)))
+      pub end-fits : endOf x ≤ 2 ^ 60
+      end-fits = omega (arith, ends, section-ends i (omega (arith, l .begun .within)))
 
       -- what is found out, one by one: it ends before p or there; the window ends in it
-      pub passed : end ≤ p → layingAt s p ≡ 0
-      passed h = none (λ lies. omega (arith, lies .begins, l .ends))
+      pub passed : endOf x ≤ p → layingAt s p ≡ 0
+      passed h = none (λ lies. omega (arith, lies .begins, ends))
 
-      pub whole : p + marks s ≤ end → layingAt s p ≡ r
-      whole h = lies-laying s good (lies-inside s good starts (omega (arith, l .begun .within)) (omega (arith, l .ends))) ∙ sym (l .all)
+      pub whole : p + marks s ≤ endOf x → layingAt s p ≡ r
+      whole h = lies-laying s good (lies-inside s good starts (omega (arith, l .begun .within)) (omega (arith, ends))) ∙ sym (l .all)
 
-      -- the window goes on behind it, and there is no next section; or the next, y, begins just there, or does not
-      stops : end < p + marks s → ¬ Across (sections s) i (p + marks s) → layingAt s p ≡ 0
-      stops longer not-across = none (λ lies. ⊎-elim (λ e. omega (arith, e, l .ends)) not-across (lies .ends))
+      -- the window goes on behind it, and there is no next section; or the next, y, is welded to it or is not
+      stops : endOf x < p + marks s → ¬ Across (sections s) i (p + marks s) → layingAt s p ≡ 0
+      stops longer not-across = none (λ lies. ⊎-elim (λ e. omega (arith, e, ends)) not-across (lies .ends))
 
-      pub last : end < p + marks s → r ≡ sectionCount s → layingAt s p ≡ 0
+      pub last : endOf x < p + marks s → r ≡ sectionCount s → layingAt s p ≡ 0
       last longer h = stops longer (λ a. omega (arith, a .0, h, l .all, sections-count s))
 
       module _ {y : Section} (is : y ≡ nthS (sections s) r) where
-        next : y ≡ nthS (sections s) (suc i)
-        next = is ∙ ap (nthS (sections s)) (l .all)
+        joint : welded x y ≡ welded (nthS (sections s) i) (nthS (sections s) (suc i))
+        joint = ap₂ welded (l .is) (is ∙ ap (nthS (sections s)) (l .all))
 
-        pub across : p < end → ¬ (r ≡ sectionCount s) → y .offset ≡ end → layingAt s p ≡ r
-        across begins h meets =
-            let weld = meets-weld (nthS (sections s) i) (nthS (sections s) (suc i)) (l .ends ∙ sym meets ∙ ap (λ x. x .offset) next) in
-            lies-laying s good (lies-across s good starts (omega (arith, h, l .all, l .begun .within, sections-count s)) weld (omega (arith, l .ends))) ∙ sym (l .all)
+        pub across : p < endOf x → ¬ (r ≡ sectionCount s) → welded x y ≡ true → layingAt s p ≡ r
+        across begins h weld =
+            lies-laying s good (lies-across s good starts (omega (arith, h, l .all, l .begun .within, sections-count s)) (sym joint ∙ weld) (omega (arith, ends))) ∙ sym (l .all)
 
-        pub parted : end < p + marks s → ¬ (y .offset ≡ end) → layingAt s p ≡ 0
-        parted longer h = stops longer (λ a. h (ap (λ x. x .offset) next ∙ sym (weld-meets (nthS (sections s) i) (nthS (sections s) (suc i)) (a .1)) ∙ l .ends))
+        pub parted : endOf x < p + marks s → welded x y ≡ false → layingAt s p ≡ 0
+        parted longer h = stops longer (λ a. false≢true (sym h ∙ joint ∙ a .1))

@@ -2,11 +2,13 @@
 ghost use mathlib.Core.Path.{_≡_};
 ghost use mathlib.Core.Bool.{false};
 ghost use Prim.Native.Nat.{_^_, _<_};
-ghost use Rattle.theory.specs.Plans.{torn, straightFrom, sections, planFault, layingAt};
+ghost use Rattle.theory.specs.Plans.{endOf, torn, straightFrom, sections, planFault, welded, layingAt};
+ghost use Rattle.sections.specs.Read.{sectionOf};
 ghost use Rattle.plans.specs.Opened.{Opens};
 ghost use Rattle.plans.specs.Begun.{Begun};
 use calls::Checked;
 use calls::refusals;
+use sections::Section;
 use shape::Made;
 use shape::Strip;
 
@@ -75,6 +77,14 @@ fn begun(plan: &[u8], place: u64) -> u64
     low
 }
 
+// Does a section end where the next begins, on the same rail?
+fn is_welded(section: Section, next: Section) -> bool
+    requires { ⌜ endOf (sectionOf section) < 2 ^ 64 ⌝ }
+    ensures { λ r. ⌜ r ≡ welded (sectionOf section) (sectionOf next) ⌝ }
+{
+    section.offset + section.long == next.offset && section.rail == next.rail
+}
+
 // The number of the section that the window at a place is laid in, plus 1; 0 if it is in none. No section is shorter than a window,
 // so one that crosses a welded joint ends in the next section.
 pub fn laying(plan: &[u8], place: u64) -> u64
@@ -96,7 +106,7 @@ pub fn laying(plan: &[u8], place: u64) -> u64
     if looked == sections::count(plan) {
         return 0;
     }
-    if sections::section_at(plan, looked).offset == end {
+    if is_welded(section, sections::section_at(plan, looked)) {
         return looked;
     }
     0

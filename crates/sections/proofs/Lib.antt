@@ -1,3 +1,3 @@
--- A plan that is not torn, and where each of its sections stands.
+-- The tests for a torn plan, and the entries of one that is not torn.
 pub mod Whole
-pub mod Pairs
+pub mod Entries

@@ -9,16 +9,17 @@ use native.Mathlib.Omega.{arith}
 use native.Mathlib.Nat.{add-zero, add-suc, suc-add, zero-add}
 use native.Mathlib.Decide.{ℕ-discrete}
 use lib.Dec.{eqb, ltb, leb}
-use lib.ListN.{length, drop}
+use lib.ListN.{length}
 use borrow.Author.Tests.{leb-true, le-leb, ltb-true, lt-ltb, le-ltb, eq-eqb, ne-eqb, eqb-true, eqb-false, not-true, not-false}
 use Rattle.theory.specs.Words.{firstOf, when}
 use Rattle.theory.specs.Strips.{admitted, strip, window, placeOf}
-use Rattle.theory.specs.Plans.{Section, endOf, shades, marks, wordFault, sectionCount, sectionsFrom, sections, torn, straightFrom, planFault, welded, reach, holdsAt, layingFrom, nthS, layingAt, laidAt, layingOf, distanceOf, lookupFault}
+use Rattle.theory.specs.Plans.{Section, endOf, shades, marks, wordFault, sectionCount, sections, torn, straightFrom, planFault, welded, reach, holdsAt, layingFrom, nthS, layingAt, laidAt, layingOf, distanceOf, lookupFault}
 use Rattle.theory.specs.Theorems.{Laid, Laid-across, Across, Lies, Laid-where, Laid-each, Laid-only, Laid-at}
 use Rattle.theory.proofs.Base.{less, equal, more, cmp, upto, over, split, test, and-l, and-r, and-in, and-false}
 use Rattle.theory.proofs.Reading.{letters-length}
 use Rattle.theory.proofs.Rings.{admitted-range, one-place, strip-marks}
 use Rattle.theory.proofs.Faults.{first-none, when-none}
+use Rattle.theory.proofs.Records.{Whole, whole, sections-count}
 
 pub plan-good : (s : List ℕ) → planFault s ≡ 0
     → (torn s ≡ false) × (admitted (shades s) (marks s) ≡ true) × (straightFrom (marks s) (shades s ^ marks s) 0 (sections s) ≡ true)
@@ -27,13 +28,8 @@ plan-good s h =
     let (c, d) = first-none (when (not (admitted (shades s) (marks s))) 1) _ b in
     (when-none (torn s) 7 (λ z. omega arith) a, not-false _ (when-none _ 1 (λ z. omega arith) c), not-false _ (when-none _ 8 (λ z. omega arith) d))
 
--- sections
-sections-length : (m : ℕ) (s : List ℕ) → length (sectionsFrom m s) ≡ m
-sections-length zero s = refl
-sections-length (suc m) s = ap suc (sections-length m (drop 16 s))
-
-pub sections-count : (s : List ℕ) → length (sections s) ≡ sectionCount s
-sections-count s = sections-length (sectionCount s) (drop 4 s)
+pub accepted-whole : (s : List ℕ) → planFault s ≡ 0 → Whole s
+accepted-whole s h = whole s (plan-good s h .0)
 
 -- what holds of the first of straight sections
 pub record Straight (n top end : ℕ) (x : Section) : Type 0 where
@@ -49,7 +45,7 @@ straight-first n top end x xs h =
     let c = and-r (leb n (x .long)) _ b in
     (record { starts = leb-true _ _ a; wide = leb-true _ _ (and-l (leb n (x .long)) _ b); ends = leb-true _ _ (and-l (leb (endOf x) top) _ c) }, and-r (leb (endOf x) top) _ c)
 
-pub straight-at : (n top end : ℕ) (xs : List Section) (i : ℕ) → straightFrom n top end xs ≡ true → i < length xs → Straight n top end (nthS xs i)
+straight-at : (n top end : ℕ) (xs : List Section) (i : ℕ) → straightFrom n top end xs ≡ true → i < length xs → Straight n top end (nthS xs i)
 straight-at n top end [] i h b = absurd (omega arith)
 straight-at n top end (x ∷ xs) zero h b = straight-first n top end x xs h .0
 straight-at n top end (x ∷ xs) (suc i) h b =
@@ -66,12 +62,15 @@ straight-apart n top end (x ∷ xs) zero (suc j) h l b = straight-at n top (endO
 straight-apart n top end (x ∷ xs) (suc i) (suc j) h l b =
     straight-apart n top (endOf x) xs i j (straight-first n top end x xs h .1) (omega arith) (omega arith)
 
--- welded sections meet
-pub weld-meets : (x y : Section) → welded x y ≡ true → endOf x ≡ y .offset
-weld-meets x y t = eqb-true (endOf x) (y .offset) t
+-- welded sections meet, on one rail
+weld-meets : (x y : Section) → welded x y ≡ true → endOf x ≡ y .offset
+weld-meets x y t = eqb-true _ _ (and-l (eqb (endOf x) (y .offset)) _ t)
 
-pub meets-weld : (x y : Section) → endOf x ≡ y .offset → welded x y ≡ true
-meets-weld x y e = eq-eqb (endOf x) (y .offset) e
+weld-rail : (x y : Section) → welded x y ≡ true → x .rail ≡ y .rail
+weld-rail x y t = eqb-true _ _ (and-r (eqb (endOf x) (y .offset)) _ t)
+
+meets-weld : (x y : Section) → endOf x ≡ y .offset → x .rail ≡ y .rail → welded x y ≡ true
+meets-weld x y meets rail = and-in (eq-eqb _ _ meets) (eq-eqb _ _ rail)
 
 -- how far a section is read: to its own end, or over a welded joint
 reach-to : (x : Section) (xs : List Section) (q : ℕ) → (q ≤ endOf x) ⊎ Across (x ∷ xs) 0 q → q ≤ reach x xs
@@ -206,20 +205,21 @@ module _ (s : List ℕ) (good : planFault s ≡ 0) where
     in-section : (lookupFault s w ≡ 0) × (layingOf s w ≡ suc i) × (distanceOf s w ≡ d)
     in-section = (no-fault, lies-looked lies, distance)
 
-  -- letter by letter: a section that the place q is in
-  abbrev Held : ℕ → Type 0
-  Held q = (i : ℕ) × (i < sectionCount s) × (x i .offset ≤ q) × (q < endOf (x i))
+  -- letter by letter: a section on rail r that the place q is in
+  abbrev Held : ℕ → ℕ → Type 0
+  Held r q = (i : ℕ) × (i < sectionCount s) × (x i .offset ≤ q) × (q < endOf (x i)) × (x i .rail ≡ r)
 
-  -- a window that lies in section i: each of its letters stands there, or in the next section, which meets it
-  lies-each : {i p : ℕ} → Lies (marks s) (sections s) i p → (q : ℕ) → p ≤ q → q < p + marks s → Held q
+  -- a window that lies in section i: each of its letters stands there, or in the next section, which meets it on the same rail
+  lies-each : {i p : ℕ} → Lies (marks s) (sections s) i p → (q : ℕ) → p ≤ q → q < p + marks s → Held (x i .rail) q
   lies-each {i} {p} l q from to =
       elim (split (endOf (x i)) q) [
-        | over h ↦ (i, omega (arith, l .listed, sections-count s), omega (arith, l .starts), h)
+        | over h ↦ (i, omega (arith, l .listed, sections-count s), omega (arith, l .starts), h, refl)
         | upto h ↦ ⊎-elim (λ e. absurd (omega arith)) (behind h) (l .ends)
       ]
     where
-      behind : endOf (x i) ≤ q → Across (sections s) i (p + marks s) → Held q
-      behind h (c, weld, on) = (suc i, omega (arith, sections-count s), omega (arith, weld-meets (x i) (x (suc i)) weld), omega arith)
+      behind : endOf (x i) ≤ q → Across (sections s) i (p + marks s) → Held (x i .rail) q
+      behind h (c, weld, on) =
+          (suc i, omega (arith, sections-count s), omega (arith, weld-meets (x i) (x (suc i)) weld), omega arith, sym (weld-rail (x i) (x (suc i)) weld))
 
   -- the section that the place behind section i is in can only be the next, since a section between the two has a letter
   next-holds : (i j : ℕ) → i < length (sections s) → j < length (sections s) → x j .offset ≤ endOf (x i) → endOf (x i) < endOf (x j) → j ≡ suc i
@@ -234,19 +234,20 @@ module _ (s : List ℕ) (good : planFault s ≡ 0) where
       between g =
           omega (arith, range .1, section-apart i (suc i) (omega arith) (omega arith), section-straight (suc i) (omega arith) .wide, section-apart (suc i) j g c)
 
-  -- so if each letter stands in a section, the section of the first has the last too, or meets the next one
-  each-lies : (p : ℕ) → ((q : ℕ) → p ≤ q → q < p + marks s → Held q) → (i : ℕ) × Lies (marks s) (sections s) i p
-  each-lies p each = let (i, b, starts, begins) = each p (omega arith) (omega (arith, range .1)) in (i, from i (omega (arith, sections-count s)) starts begins)
+  -- so if each letter stands in a section on rail r, the section of the first has the last too, or is welded to the next one
+  each-lies : (r p : ℕ) → ((q : ℕ) → p ≤ q → q < p + marks s → Held r q) → (i : ℕ) × Lies (marks s) (sections s) i p
+  each-lies r p each = let (i, b, starts, begins, rail) = each p (omega arith) (omega (arith, range .1)) in (i, from i (omega (arith, sections-count s)) starts begins rail)
     where
-      from : (i : ℕ) → i < length (sections s) → x i .offset ≤ p → p < endOf (x i) → Lies (marks s) (sections s) i p
-      from i b starts begins = elim (split (p + marks s) (endOf (x i))) [ upto h ↦ lies-inside starts b h | over h ↦ on (each (endOf (x i)) (omega arith) h) ]
+      from : (i : ℕ) → i < length (sections s) → x i .offset ≤ p → p < endOf (x i) → x i .rail ≡ r → Lies (marks s) (sections s) i p
+      from i b starts begins rail = elim (split (p + marks s) (endOf (x i))) [ upto h ↦ lies-inside starts b h | over h ↦ on (each (endOf (x i)) (omega arith) h) ]
         where
-          on : Held (endOf (x i)) → Lies (marks s) (sections s) i p
-          on (j, c, early, late) =
+          on : Held r (endOf (x i)) → Lies (marks s) (sections s) i p
+          on (j, c, early, late, same) =
               let listed : j < length (sections s) = omega (arith, sections-count s) in
               let is = next-holds i j b listed early late in
               let meets : endOf (x i) ≡ x (suc i) .offset = omega (arith, ap (λ m. x m .offset) is, section-apart i j (omega (arith, is)) listed) in
-              lies-across starts (omega (arith, is, listed)) (meets-weld (x i) (x (suc i)) meets) begins
+              let one-rail : x i .rail ≡ x (suc i) .rail = rail ∙ sym same ∙ ap (λ m. x m .rail) is in
+              lies-across starts (omega (arith, is, listed)) (meets-weld (x i) (x (suc i)) meets one-rail) begins
 
 pub laid-where : Laid-where
 laid-where s i p good = (laying-lies s good, lies-laying s good)
@@ -296,4 +297,4 @@ laid-at s p good laid =
 
 pub laid-each : Laid-each
 laid-each s p good =
-    (λ laid. lies-each s good (lies-there s p good (laid-some s p laid)), λ each. some-laid s p (λ z. let l = each-lies s good p each .1 in omega (arith, z, lies-laying s good l)))
+    (λ laid. (_, lies-each s good (lies-there s p good (laid-some s p laid))), λ (r, each). some-laid s p (λ z. let l = each-lies s good r p each .1 in omega (arith, z, lies-laying s good l)))

@@ -30,6 +30,7 @@ pub mod Cursors
 pub mod Back
 pub mod Strips
 pub mod Faults
+pub mod Records
 pub mod Laying
 pub mod Erasures
 pub mod Levels

@@ -10,6 +10,7 @@ use Rattle.theory.proofs.Rings.{rings, one-place}
 use Rattle.theory.proofs.Cursors.{ring-cursors}
 use Rattle.theory.proofs.Back.{both-ways}
 use Rattle.theory.proofs.Strips.{cursors}
+use Rattle.theory.proofs.Records.{records}
 use Rattle.theory.proofs.Laying.{laid, laid-across, laid-where, laid-each, laid-only, laid-at}
 use Rattle.theory.proofs.Erasures.{smudged}
 use Rattle.theory.proofs.BySum.{summed}
@@ -32,6 +33,7 @@ theorems =
       both-ways = both-ways;
       one-place = one-place;
       cursors = cursors;
+      records = records;
       laid = laid;
       laid-across = laid-across;
       laid-where = laid-where;

@@ -15,10 +15,11 @@ beFrom v (b ∷ bs) = beFrom (256 * v + b) bs
 abbrev pub be : ℕ → ℕ → List ℕ → ℕ
 be i n s = beFrom 0 (take n (drop i s))
 
--- a section: so many letters of the strip from its offset on
+-- a section: so many letters of the strip from its offset on, and the rail number written with it, 0 where none is
 pub record Section : Type 0 where
   pub offset : ℕ
   pub long : ℕ
+  pub rail : ℕ
 
 -- the place behind its last letter
 abbrev pub endOf : Section → ℕ
@@ -33,16 +34,29 @@ marks s = getD s 1 0
 abbrev pub sectionCount : List ℕ → ℕ
 sectionCount s = be 2 2 s
 
-abbrev pub sectionsFrom : ℕ → List ℕ → List Section
-sectionsFrom zero s = []
-sectionsFrom (suc m) s = record { offset = be 0 8 s; long = be 8 8 s } ∷ sectionsFrom m (drop 16 s)
+-- a section's entry: offset and length are 16 bytes, in a new record 2 bytes of rail stand behind them; the total tells old and new apart
+unfoldable pub entrySize : List ℕ → ℕ
+entrySize s = pick (eqb (length s) (4 + 16 * sectionCount s)) 16 18
+
+abbrev pub entryOf : ℕ → List ℕ → Section
+entryOf e s = record { offset = be 0 8 s; long = be 8 8 s; rail = be 16 (e - 16) s }
+
+-- m entries of e bytes each
+abbrev pub sectionsFrom : ℕ → ℕ → List ℕ → List Section
+sectionsFrom e zero s = []
+sectionsFrom e (suc m) s = entryOf e s ∷ sectionsFrom e m (drop e s)
 
 abbrev pub sections : List ℕ → List Section
-sections s = sectionsFrom (sectionCount s) (drop 4 s)
+sections s = sectionsFrom (entrySize s) (sectionCount s) (drop 4 s)
 
 -- 7, 1, 8
 abbrev pub torn : List ℕ → Bool
-torn s = ltb (length s) 4 || (ltb 500 (sectionCount s) || not (eqb (length s) (4 + 16 * sectionCount s)))
+torn s =
+    ltb (length s) 4 || (ltb 500 (sectionCount s) || not (eqb (length s) (4 + 16 * sectionCount s) || eqb (length s) (4 + 18 * sectionCount s)))
+
+-- the rule for 7 from before rails were written: old records only
+abbrev pub tornBefore : List ℕ → Bool
+tornBefore s = ltb (length s) 4 || (ltb 500 (sectionCount s) || not (eqb (length s) (4 + 16 * sectionCount s)))
 
 abbrev pub straightFrom : ℕ → ℕ → ℕ → List Section → Bool
 straightFrom n top end [] = true
@@ -55,9 +69,10 @@ planFault s =
     (when (torn s) 7)
     (firstOf (when (not (admitted (shades s) (marks s))) 1) (when (not (straightFrom (marks s) (shades s ^ marks s) 0 (sections s))) 8))
 
--- is the joint of a section and the next in the list welded: does this one end at the place where that one begins
+-- is the joint of a section and the next in the list welded: does this one end at the place where that one begins, on the same rail? In an old record
+-- no rail is written, so all are the same here
 abbrev pub welded : Section → Section → Bool
-welded x y = eqb (endOf x) (y .offset)
+welded x y = eqb (endOf x) (y .offset) && eqb (x .rail) (y .rail)
 
 -- how far a window that begins in a section is read: to its end or, over a welded joint, to the end of the next; xs are the sections behind it
 abbrev pub reach : Section → List Section → ℕ
@@ -74,10 +89,14 @@ layingFrom i p n (x ∷ xs) = elim (holdsAt p n x xs) [ true ↦ suc i | false �
 
 -- what stands behind the last section
 abbrev pub noSection : Section
-noSection = record { offset = 0; long = 0 }
+noSection = record { offset = 0; long = 0; rail = 0 }
 
 abbrev pub nthS : List Section → ℕ → Section
 nthS xs i = getD xs i noSection
+
+-- the rail that is answered for section i: the one written with it, in an old record the section's own number
+abbrev pub railOf : List ℕ → ℕ → ℕ
+railOf s i = pick (eqb (entrySize s) 16) i (nthS (sections s) i .rail)
 
 -- of the window at a place: the number of the section that it is laid in, plus 1, or 0; whether it is laid; its distance from the section's start
 abbrev pub layingAt : List ℕ → ℕ → ℕ

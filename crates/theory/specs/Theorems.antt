@@ -7,7 +7,7 @@ use Prim.Native.Nat.{ℕ, suc, _+_, _-_, _*_, _^_, _≤_, _<_}
 use lib.IntN.{ℤ, pos, natAbs}
 use lib.Dec.{eqb, ltb, leb}
 use lib.ListN.{length, getD, take, drop, replicate}
-use Rattle.theory.specs.Words.{pick, same, below, upTo, turned, isLyndon, smallest, leastTurn, repeated, root, Primitive, allWords, keep, lyndons, howMany, rank, wordOf, marksOk, powerTo}
+use Rattle.theory.specs.Words.{pick, firstOf, when, same, below, upTo, turned, isLyndon, smallest, leastTurn, repeated, root, Primitive, allWords, keep, lyndons, howMany, rank, wordOf, marksOk, powerTo}
 use Rattle.theory.specs.Lists.{In, Ascending, Once}
 use Rattle.theory.specs.Sums.{cs, mobius, divisors, running, rankTerm, countTerm, By-sum}
 use Rattle.theory.specs.Floors.{isNecklace, necklaceUpTo, necklaceBelow, floorFrom}
@@ -16,7 +16,7 @@ use Rattle.theory.specs.Search.{leastWord}
 use Rattle.theory.specs.Rings.{upWords, lyndonsUp, divides, Allowed, ringWords, ring, modulo, letterOn, lettersOn, Cursor, Stepped, goodOn, beforeW, positionOn, cursorOn, passedBy, passedTo, passedDown, stepOn, backOn, readOn, beside, pathEnd, pathLetters, walkEnd, walkLetters, windowOn, placeOn}
 use Rattle.theory.specs.Steps.{extension, nextLyndon, previousLyndon, period}
 use Rattle.theory.specs.Strips.{admitted, stripWords, strip, markAt, marksFrom, window, placeOf, cursorOk, placeIn, cursorAt, stepOf, backOf}
-use Rattle.theory.specs.Plans.{Section, endOf, planFault, sectionCount, shades, marks, sections, welded, nthS, layingAt, laidAt, distanceAt, lookupFault, layingOf, distanceOf}
+use Rattle.theory.specs.Plans.{Section, be, endOf, planFault, sectionCount, shades, marks, entrySize, sections, torn, tornBefore, welded, nthS, railOf, layingAt, laidAt, distanceAt, lookupFault, layingOf, distanceOf}
 use Rattle.theory.specs.Erasures.{unread, read, agrees, fitting, filling, smudgeFault, smudgedFault}
 use Rattle.theory.specs.Marked.{Marked}
 
@@ -189,6 +189,37 @@ pub record Cursors : Type 0 where
   pub as-many : (c : Cursor) → 2 ≤ c .k → 1 ≤ c .n → cursorOk c ≡ true → stepOf (backOf c .cursor-is) .passed ≡ backOf c .passed
   pub reads : (k n p c : ℕ) → 2 ≤ k → 1 ≤ n → p < k ^ n → readOn (λ d. divides d n) (cursorAt k n p) c ≡ marksFrom k n p c
 
+-- Two plans with the same strip and the same sections, whatever their rails; one may be an old record and the other a new one.
+pub record Alike (s r : List ℕ) : Type 0 where
+  pub whole : (torn s ≡ false) × (torn r ≡ false)
+  pub strip-same : (shades s ≡ shades r) × (marks s ≡ marks r)
+  pub count-same : sectionCount s ≡ sectionCount r
+  pub each-same : (i : ℕ) → i < sectionCount s
+      → (nthS (sections s) i .offset ≡ nthS (sections r) i .offset) × (nthS (sections s) i .long ≡ nthS (sections r) i .long)
+
+-- Old records of a plan, with entries of 16 bytes, and new ones, with 18.
+pub record Records : Type 0 where
+  -- a reader delivered before, by its rule for 7: it refuses a new record of any section, whatever it looks at after that, and takes old records only
+  pub old-reader : (s : List ℕ) (rest : ℕ) → length s ≡ 4 + 18 * sectionCount s → 1 ≤ sectionCount s → firstOf (when (tornBefore s) 7) rest ≡ 7
+  pub old-record : (s : List ℕ) → tornBefore s ≡ false → (torn s ≡ false) × (entrySize s ≡ 16)
+  -- what is taken since then is new records, of one section or more; without sections both are the same
+  pub new-record : (s : List ℕ) → torn s ≡ false → tornBefore s ≡ true
+      → (length s ≡ 4 + 18 * sectionCount s) × (1 ≤ sectionCount s) × (entrySize s ≡ 18)
+  pub no-sections : (s : List ℕ) → sectionCount s ≡ 0 → torn s ≡ tornBefore s
+  -- where the numbers of section i stand, by the entry's size
+  pub entry : (s : List ℕ) (i : ℕ) → i < sectionCount s
+      → let x = nthS (sections s) i in
+      let at = 4 + entrySize s * i in
+      (x .offset ≡ be at 8 s) × (x .long ≡ be (at + 8) 8 s) × (x .rail ≡ be (at + 16) (entrySize s - 16) s)
+  -- the rail that is answered for a section: its own number in an old record, in a new one the 2 bytes behind its offset and length
+  pub own-rail : (s : List ℕ) (i : ℕ) → entrySize s ≡ 16 → railOf s i ≡ i
+  pub written-rail : (s : List ℕ) (i : ℕ) → entrySize s ≡ 18 → i < sectionCount s → railOf s i ≡ be (4 + 18 * i + 16) 2 s
+  -- in an old record rails part no sections
+  pub old-welds : (s : List ℕ) (i j : ℕ) → entrySize s ≡ 16 → i < sectionCount s → j < sectionCount s
+      → welded (nthS (sections s) i) (nthS (sections s) j) ≡ eqb (endOf (nthS (sections s) i)) (nthS (sections s) j .offset)
+  -- a plan's fault is that of its strip and sections, in either record
+  pub alike-fault : (s r : List ℕ) → Alike s r → planFault s ≡ planFault r
+
 -- From whichever place n letters are read wholly inside a section, the lookup answers it and the distance.
 abbrev pub Laid : Type 0
 Laid =
@@ -219,12 +250,15 @@ pub record Lies (n : ℕ) (xs : List Section) (i p : ℕ) : Type 0 where
 abbrev pub Laid-where : Type 0
 Laid-where = (s : List ℕ) (i p : ℕ) → planFault s ≡ 0 → (layingAt s p ≡ suc i) ↔ Lies (marks s) (sections s) i p
 
--- Letter by letter, whatever joints there are: a window is laid just when each of its letters stands in a section. So none is read over a gap.
+-- Letter by letter, whatever joints there are: a window is laid just when each of its letters stands in a section, all on one rail. So none is read over a gap
+-- or from one rail to another.
 abbrev pub Laid-each : Type 0
 Laid-each =
     (s : List ℕ) (p : ℕ) → planFault s ≡ 0
     → (laidAt s p ≡ true)
-    ↔ ((q : ℕ) → p ≤ q → q < p + marks s → (i : ℕ) × (i < sectionCount s) × (nthS (sections s) i .offset ≤ q) × (q < endOf (nthS (sections s) i)))
+    ↔ ((rail : ℕ)
+    × ((q : ℕ) → p ≤ q → q < p + marks s
+    → (i : ℕ) × (i < sectionCount s) × (nthS (sections s) i .offset ≤ q) × (q < endOf (nthS (sections s) i)) × (nthS (sections s) i .rail ≡ rail)))
 
 -- What the lookup answers is true: the window lies in that section, at that distance from its start.
 abbrev pub Laid-only : Type 0
@@ -338,6 +372,7 @@ pub record Theorems : Type 0 where
   pub both-ways : (ok : ℕ → Bool) (k n : ℕ) → 2 ≤ k → 1 ≤ n → Allowed n ok → Both-ways ok k n
   pub one-place : One-place
   pub cursors : Cursors
+  pub records : Records
   pub laid : Laid
   pub laid-across : Laid-across
   pub laid-where : Laid-where

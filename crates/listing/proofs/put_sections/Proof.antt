@@ -3,8 +3,8 @@ use Prim.Native.Nat.{_-_, _≤_, _<_}
 use mathlib.Core.Path.{ap}
 use native.Mathlib.Omega.{arith}
 use Rattle.theory.specs.Plans.{sectionCount, sections}
-use Rattle.theory.proofs.Laying.{plan-good, sections-count}
-use Rattle.sections.proofs.Whole.{accepted-whole}
+use Rattle.theory.proofs.Records.{sections-count}
+use Rattle.theory.proofs.Laying.{plan-good, accepted-whole}
 use Rattle.listing.proofs.Building.{nothing}
 use Rattle.listing.proofs.Openings.{section-starts}
 use Rattle.listing.proofs.Sections.{Lines, line-room, one-more, all-lines}

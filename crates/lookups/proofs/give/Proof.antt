@@ -1,7 +1,10 @@
--- `give` puts the section's number and the distance over the start of a tray that has room for them.
-use mathlib.Core.Path.{refl, _∙_, ap}
+-- `give` puts the section's number, the distance and the rail over the start of a tray that has room for them.
+use mathlib.Core.Path.{_≡_, refl, _∙_, ap}
+use mathlib.Core.List.{_++_}
 use Prim.Native.Nat.{_-_}
 use native.Mathlib.Omega.{arith}
+use lib.ListN.{length}
+use borrow.Rule.Slice.PartMut.{putMid}
 use borrow.Author.Needs.{needs}
 use Rattle.theory.proofs.Laying.{plan-good}
 use Rattle.buffers.specs.Buffers.{over}
@@ -13,6 +16,22 @@ use Rattle.lookups.specs.Says.{answerAt}
 use Rattle.lookups.proofs.Laying.{section-inside, starts-before, bytes-are}
 use Rattle.lookups.proofs.give.Statement.{statement}
 use Rattle.lookups.proofs.give.Tie as tie
+
+-- the section is read; the start from there
+abbrev laid : tie.After-section-at → tie.Start
+laid c = c .before .before .before .before
+
+-- its number and the distance are written
+abbrev sections-start : tie.After-put64 → tie.After-section-at
+sections-start c = c .before .before .before .before .before .before .before
+
+two : (c : tie.After-put64) → let number = c .before .before .before .before in let section = sections-start c in let a = laid section .args in
+    putMid 2 (length (number .put16 .last .1 .0) - 2) (number .put16 .last .1 .0) (c .put64 .last .1 .0) ≡ over (putBe 2 (a .laying - 1) ++ putBe 8 (a .place - section .section-at .result .offset)) (a .tray .now)
+two c =
+    let number = c .before .before .before .before in
+    let section = sections-start c in
+    let a = laid section .args in
+    handed-on (putBe 2 (a .laying - 1)) (putBe 8 (a .place - section .section-at .result .offset)) (a .tray .now) (number .put16 .last .1 .0) (c .put64 .last .1 .0) 2 (put-length 2 (a .laying - 1)) (number .put16 .ensures) (c .put64 .ensures) (omega arith)
 
 returns : tie.Need-returns
 returns c = let a = c .before .before .before .args in into-small (answerAt (a .plan .now) (a .place)) (a .tray .now) refl (omega arith) refl refl
@@ -41,21 +60,53 @@ part-put64-end c = search needs
 put64-requires : tie.Need-put64-requires
 put64-requires c κs = search needs
 
+rail-of-requires : tie.Need-rail-of-requires
+rail-of-requires c κs = let f = laid (sections-start (c .before .before)) in (plan-good (f .args .plan .now) (f .pre .faultless) .0, section-inside (f .pre))
+
+sub-put16 : tie.Need-sub-put16
+sub-put16 c = search needs
+
+part-put16-start : tie.Need-part-put16-start
+part-put16-start c = search needs
+
+part-put16-end : tie.Need-part-put16-end
+part-put16-end c = search needs
+
+put16-requires-2 : tie.Need-put16-requires-2
+put16-requires-2 c κs = search needs
+
 same-length : tie.Need-same-length
 same-length c = search needs
 
 returns-2 : tie.Need-returns-2
 returns-2 c =
-    let number = c .before .before .before .before .before .before in
-    let section = number .before .before .before in
-    let f = section .before .before .before .before in
-    let a = f .args in
-    let distance = a .place - section .section-at .result .offset in
-    into-answer (answerAt (a .plan .now) (a .place)) (a .tray .now) refl (omega arith) refl
-    (handed-on (putBe 2 (a .laying - 1)) (putBe 8 distance) (a .tray .now) (number .put16 .last .1 .0) (c .before .before .put64 .last .1 .0) 2 (put-length 2 (a .laying - 1)) (number .put16 .ensures) (c .before .before .put64 .ensures) (omega arith)
-    ∙ ap (λ b. over b (a .tray .now)) (bytes-are (f .pre) (ap (λ x. x .offset) (section .section-at .ensures))))
+    let written = c .before .before in
+    let railed = written .before .before in
+    let put = railed .before .before .before in
+    let section = sections-start put in
+    let f = laid section in
+    let front = putBe 2 (f .args .laying - 1) ++ putBe 8 (f .args .place - section .section-at .result .offset) in
+    into-answer (answerAt (f .args .plan .now) (f .args .place)) (f .args .tray .now) refl (omega arith) refl
+    (handed-on front (putBe 2 (railed .rail-of .result)) (f .args .tray .now) _ (written .put162 .last .1 .0) 10 refl (two put) (written .put162 .ensures) (omega arith)
+    ∙ ap (λ b. over b (f .args .tray .now)) (bytes-are (f .pre) (ap (λ x. x .offset) (section .section-at .ensures)) (railed .rail-of .ensures)))
 
 pub give-spec : {M : Type 1} → statement M
 give-spec =
     tie.close
-    (tie.spec returns sub-section section-at-requires sub-distance put16-requires sub-put64 part-put64-start part-put64-end put64-requires same-length returns-2)
+    (tie.spec
+    returns
+    sub-section
+    section-at-requires
+    sub-distance
+    put16-requires
+    sub-put64
+    part-put64-start
+    part-put64-end
+    put64-requires
+    rail-of-requires
+    sub-put16
+    part-put16-start
+    part-put16-end
+    put16-requires-2
+    same-length
+    returns-2)

@@ -3,7 +3,8 @@ use Prim.Native.Nat.{_-_, _≤_}
 use mathlib.Core.Path.{_≡_, sym, ap, subst}
 use native.Mathlib.Omega.{arith}
 use Rattle.theory.specs.Plans.{sections}
-use Rattle.theory.proofs.Laying.{plan-good, sections-count}
+use Rattle.theory.proofs.Records.{sections-count}
+use Rattle.theory.proofs.Laying.{plan-good}
 use Rattle.plans.specs.Begun.{Between}
 use Rattle.plans.proofs.Places.{anywhere, few, raise, lower}
 use Rattle.plans.proofs.begun.Statement.{statement}

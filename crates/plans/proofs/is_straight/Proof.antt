@@ -4,7 +4,7 @@ use mathlib.Core.Path.{_≡_, refl, sym, _∙_}
 use native.Mathlib.Omega.{arith}
 use lib.ListN.{drop}
 use Rattle.theory.specs.Plans.{sectionCount, sections, straightFrom}
-use Rattle.theory.proofs.Laying.{sections-count}
+use Rattle.theory.proofs.Records.{sections-count}
 use Rattle.sections.specs.Read.{sectionOf}
 use Rattle.plans.proofs.Straight.{straight-none, At, early, narrow, outside, onward}
 use Rattle.plans.proofs.is_straight.Statement.{statement}

@@ -1,19 +1,16 @@
 -- laying: only the last section that begins at the place or before it can hold the window's first letter.
-use Prim.Native.Nat.{_+_, _-_}
-use mathlib.Core.Path.{sym, subst}
+use Prim.Native.Nat.{_-_}
+use mathlib.Core.Path.{sym, _∙_, subst}
 use native.Mathlib.Omega.{arith}
 use borrow.Author.Needs.{needs}
 use Rattle.theory.specs.Plans.{sections}
-use Rattle.theory.proofs.Laying.{plan-good, sections-count}
-use Rattle.sections.proofs.Whole.{accepted-whole}
-use Rattle.sections.proofs.count.Reads as count-reads
-use Rattle.sections.proofs.section_at.Reads as section-at-reads
+use Rattle.theory.proofs.Records.{sections-count}
+use Rattle.theory.proofs.Laying.{plan-good}
+use Rattle.theory.proofs.Laying.{accepted-whole}
+use Rattle.sections.specs.Read.{sectionOf}
 use Rattle.plans.specs.Begun.{Begun}
 use Rattle.plans.proofs.Places.{Looked, look, end-fits, nowhere, passed, whole, last, across, parted}
-use Rattle.plans.proofs.begun.Reads as begun-reads
 use Rattle.plans.proofs.laying.Statement.{statement}
-use Rattle.plans.proofs.laying.Reads as reads
-use Rattle.plans.proofs.laying.Lts as lts
 use Rattle.plans.proofs.laying.Tie as tie
 
 begun-requires : tie.Need-begun-requires
@@ -33,12 +30,9 @@ section-at-requires c κs =
     (plan-good (f .args .plan .now) (f .pre .0) .0, omega (arith, c .before .begun .ensures .within, sections-count (f .args .plan .now)))
 
 -- the section that is looked at
-abbrev Section-read : Type 0
-Section-read = lts.After-struct-known (begun-reads.Asked, begun-reads.Learnt, section-at-reads.Asked, section-at-reads.Learnt, count-reads.Asked, count-reads.Learnt) reads.Pre reads.Post
-
-seen : (c : Section-read)
+seen : (c : tie.After-struct-known)
     → let f = c .before .before .before .before .before in
-    Looked (f .args .plan .now) (f .pre .0) (f .args .place) (c .before .before .before .begun .result) (c .before .section-at .result .offset + c .before .section-at .result .long)
+    Looked (f .args .plan .now) (f .pre .0) (f .args .place) (c .before .before .before .begun .result) (sectionOf (c .before .section-at .result))
 seen c =
     let f = c .before .before .before .before .before in
     look (f .args .plan .now) (f .pre .0) (f .args .place) (c .before .before .before .begun .ensures) (omega arith) (c .before .section-at .ensures)
@@ -81,17 +75,23 @@ section-at-requires-2 c κs =
     let f = c .before .before .before .before .before .before .before .before .before .before in
     (plan-good (f .args .plan .now) (f .pre .0) .0, omega (arith, c .before .before .before .before .before .before .before .before .begun .ensures .within, sections-count (f .args .plan .now)))
 
+is-welded-requires : tie.Need-is-welded-requires
+is-welded-requires c κs =
+    let at = c .before .before .before .before .before .before in
+    let f = at .before .before .before .before .before in
+    omega (arith, end-fits (f .args .plan .now) (f .pre .0) (f .args .place) (seen at))
+
 returns-5 : tie.Need-returns-5
 returns-5 c =
     let e = c .before .before .before .before .before in
     let f = e .before .before .before .before .before .before .before .before in
-    sym (across (f .args .plan .now) (f .pre .0) (f .args .place) (seen (e .before .before .before)) (c .before .before .section-at2 .ensures) (omega arith) (λ z. omega (arith, z)) (c .if5 .taken))
+    sym (across (f .args .plan .now) (f .pre .0) (f .args .place) (seen (e .before .before .before)) (c .before .before .section-at2 .ensures) (omega arith) (λ z. omega (arith, z)) (sym (c .before .is-welded .ensures) ∙ c .if5 .taken))
 
 returns-6 : tie.Need-returns-6
 returns-6 c =
     let e = c .before .before .before .before .before in
     let f = e .before .before .before .before .before .before .before .before in
-    sym (parted (f .args .plan .now) (f .pre .0) (f .args .place) (seen (e .before .before .before)) (c .before .before .section-at2 .ensures) (e .if3 .left) (c .if5 .left))
+    sym (parted (f .args .plan .now) (f .pre .0) (f .args .place) (seen (e .before .before .before)) (c .before .before .section-at2 .ensures) (e .if3 .left) (sym (c .before .is-welded .ensures) ∙ c .if5 .left))
 
 pub laying-spec : {M : Type 1} → statement M
 laying-spec =
@@ -110,5 +110,6 @@ laying-spec =
     count-requires
     returns-4
     section-at-requires-2
+    is-welded-requires
     returns-5
     returns-6)

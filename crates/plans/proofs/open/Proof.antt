@@ -6,7 +6,7 @@ use native.Mathlib.Omega.{arith}
 use lib.ListN.{length}
 use borrow.Author.Needs.{needs}
 use Rattle.theory.specs.Plans.{torn}
-use Rattle.sections.proofs.Whole.{whole}
+use Rattle.theory.proofs.Records.{whole}
 use Rattle.plans.proofs.Tests.{opened-torn, opened-none, straight-sections, opened-strip, opened-crooked}
 use Rattle.plans.proofs.open.Statement.{statement}
 use Rattle.plans.proofs.open.Tie as tie

@@ -1,7 +1,7 @@
 -- count: the number in the plan's third and fourth byte.
 use native.Mathlib.Omega.{arith}
 use borrow.Author.Needs.{needs}
-use Rattle.sections.proofs.Whole.{whole}
+use Rattle.theory.proofs.Records.{whole}
 use Rattle.sections.proofs.count.Statement.{statement}
 use Rattle.sections.proofs.count.Tie as tie
 
