@@ -1,5 +1,5 @@
 -- Entries: how long one is, where it ends, what is read from it, and the rail that is answered for it.
-use mathlib.Core.Path.{_≡_, sym, _∙_, ap, subst}
+use mathlib.Core.Path.{_≡_, sym, _∙_, ap}
 use mathlib.Core.Bool.{false}
 use mathlib.Core.List.{List}
 use Prim.Native.Nat.{ℕ, suc, _+_, _-_, _*_, _≤_, _<_}
@@ -24,12 +24,9 @@ pub record Entry (s : List ℕ) (at e : ℕ) : Type 0 where
   pub pair : 16 ≤ e
   pub railed : ¬ (e ≡ 16) → e ≡ 18
 
--- the rail's bytes, as many as the size leaves
-pub rail-none : (s : List ℕ) (at : ℕ) {e : ℕ} → e ≡ 16 → 0 ≡ be at (e - 16) s
-rail-none s at z = ap (λ m. be at (m - 16) s) (sym z)
-
-pub rail-two : (s : List ℕ) (at : ℕ) {e : ℕ} → e ≡ 18 → be at 2 s ≡ be at (e - 16) s
-rail-two s at z = ap (λ m. be at (m - 16) s) (sym z)
+-- the rail's bytes are what an entry of e bytes has behind the pair: none or two
+pub rail-bytes : (s : List ℕ) (at : ℕ) {e m : ℕ} → e ≡ m → be at (m - 16) s ≡ be at (e - 16) s
+rail-bytes s at z = ap (λ m. be at (m - 16) s) (sym z)
 
 -- section i; e is the size of an entry
 module _ (s : List ℕ) (i : ℕ) {e : ℕ} (inside : i < sectionCount s) (size : e ≡ entrySize s) where
@@ -46,8 +43,8 @@ module _ (s : List ℕ) (i : ℕ) {e : ℕ} (inside : i < sectionCount s) (size 
   pub section-read : {o l r : ℕ} → o ≡ be (4 + e * i) 8 s → l ≡ be (4 + e * i + 8) 8 s → r ≡ be (4 + e * i + 16) (e - 16) s
       → record { offset = o; long = l; rail = r } ≡ nthS (sections s) i
   section-read f g h =
-      let (offset, long, rail) = subst (λ m. (nthS (sections s) i .offset ≡ be (4 + m * i) 8 s) × (nthS (sections s) i .long ≡ be (4 + m * i + 8) 8 s) × (nthS (sections s) i .rail ≡ be (4 + m * i + 16) (m - 16) s)) (sym size) (entry s i inside) in
-      rw (f ∙ sym offset, g ∙ sym long, h ∙ sym rail)
+      let (offset, long, rail) = entry s i inside in
+      rw ((rw size at f) ∙ sym offset, (rw size at g) ∙ sym long, (rw size at h) ∙ sym rail)
 
   pub rail-own : e ≡ 16 → i ≡ railOf s i
   rail-own z = sym (own-rail s i (sym size ∙ z))

@@ -1,3 +1,3 @@
 -- The tests for a torn plan, and the entries of one that is not torn.
-pub mod Whole
+pub mod Torn
 pub mod Entries

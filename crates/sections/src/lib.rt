@@ -45,7 +45,7 @@ pub fn count(plan: &[u8]) -> u64
 }
 
 // Bytes of an entry: the total tells which record it is.
-fn entry(plan: &[u8]) -> usize
+fn entry_size(plan: &[u8]) -> usize
     requires { ⌜ torn (now plan) ≡ false ⌝ }
     ensures { λ r. ⌜ r ≡ entrySize (now (plan .entry)) ⌝ }
 {
@@ -67,7 +67,7 @@ pub fn section_at(plan: &[u8], i: u64) -> Section
     requires { ⌜ (torn (now plan) ≡ false) × (i < sectionCount (now plan)) ⌝ }
     ensures { λ r. ⌜ sectionOf r ≡ nthS (sections (now (plan .entry))) i ⌝ }
 {
-    let size = entry(plan);
+    let size = entry_size(plan);
     let at = HEAD + size * i as usize;
     let rail = if size == PAIR {
         0
@@ -86,7 +86,7 @@ pub fn rail_of(plan: &[u8], i: u64) -> u64
     requires { ⌜ (torn (now plan) ≡ false) × (i < sectionCount (now plan)) ⌝ }
     ensures { λ r. ⌜ r ≡ railOf (now (plan .entry)) i ⌝ }
 {
-    if entry(plan) == PAIR {
+    if entry_size(plan) == PAIR {
         return i;
     }
     section_at(plan, i).rail

@@ -9,8 +9,8 @@ use lib.Dec.{eqb, ltb}
 use lib.ListN.{length, take, drop}
 use lib.Seq.{drop-drop}
 use borrow.Author.Tests.{ltb-false, eq-eqb, ne-eqb, eqb-true, eqb-false, not-false}
-use Rattle.theory.specs.Words.{pick, firstOf, when}
-use Rattle.theory.specs.Plans.{Section, endOf, beFrom, be, shades, marks, sectionCount, entrySize, entryOf, sectionsFrom, sections, torn, tornBefore, straightFrom, planFault, welded, nthS, railOf}
+use Rattle.theory.specs.Words.{pick}
+use Rattle.theory.specs.Plans.{Section, beFrom, be, shades, marks, sectionCount, fitsEntries, entrySize, entryOf, sectionsFrom, sections, torn, tornBefore, straightFrom, planFault, nthS, railOf}
 use Rattle.theory.specs.Theorems.{Alike, Records}
 use Rattle.theory.proofs.Base.{test, and-true, or-false, or-right, or-cases}
 
@@ -21,7 +21,7 @@ pub data Size (s : List ℕ) : Type 0 where
 
 pub size-of : (s : List ℕ) → Size s
 unfolding entrySize
-size-of s = elim (test (eqb (length s) (4 + 16 * sectionCount s))) [ inl t ↦ old (eqb-true _ _ t) (rw t) | inr t ↦ new (eqb-false _ _ t) (rw t) ]
+size-of s = elim (test (fitsEntries 16 s)) [ inl t ↦ old (eqb-true _ _ t) (rw t) | inr t ↦ new (eqb-false _ _ t) (rw t) ]
 
 -- the three tests of either rule for 7
 tests : (s : List ℕ) (total : Bool) → (ltb (length s) 4 || (ltb 500 (sectionCount s) || not total)) ≡ false
@@ -41,7 +41,7 @@ whole s h =
     let (_, few, total) = tests s _ h in
     record { few = ltb-false 500 (sectionCount s) few; long = by-size (or-cases _ _ total) (size-of s) }
   where
-    by-size : (eqb (length s) (4 + 16 * sectionCount s) ≡ true) ⊎ (eqb (length s) (4 + 18 * sectionCount s) ≡ true) → Size s
+    by-size : (fitsEntries 16 s ≡ true) ⊎ (fitsEntries 18 s ≡ true) → Size s
         → length s ≡ 4 + entrySize s * sectionCount s
     by-size t (old e z) = rw z e
     by-size (inl t) (new e z) = absurd (e (eqb-true _ _ t))
@@ -124,10 +124,10 @@ records =
           let other = ne-eqb (length s) (4 + 16 * sectionCount s) (λ e. omega arith) in
           rw (or-right (ltb (length s) 4) _ (or-right (ltb 500 (sectionCount s)) _ (ap not other)));
       old-record = λ s h.
-          let (head, few, is) = tests s (eqb (length s) (4 + 16 * sectionCount s)) h in
+          let (head, few, is) = tests s (fitsEntries 16 s) h in
           (rw (head, few, is), elim (size-of s) [ old e z ↦ z | new e z ↦ absurd (e (eqb-true _ _ is)) ]);
       new-record = λ s h before.
-          let (head, few, _) = tests s (eqb (length s) (4 + 16 * sectionCount s) || eqb (length s) (4 + 18 * sectionCount s)) h in
+          let (head, few, _) = tests s (fitsEntries 16 s || fitsEntries 18 s) h in
           elim (size-of s) [
             | old e z ↦ let still : tornBefore s ≡ false = rw (head, few, eq-eqb (length s) (4 + 16 * sectionCount s) e) in absurd (true≢false (sym before ∙ still))
             | new e z ↦ let long : length s ≡ 4 + 18 * sectionCount s = whole s h .long ∙ ap (λ m. 4 + m * sectionCount s) z in (long, omega arith, z)

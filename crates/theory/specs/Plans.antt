@@ -34,9 +34,13 @@ marks s = getD s 1 0
 abbrev pub sectionCount : List ℕ → ℕ
 sectionCount s = be 2 2 s
 
--- a section's entry: offset and length are 16 bytes, in a new record 2 bytes of rail stand behind them; the total tells old and new apart
+-- is the total that of entries of e bytes, one for each section
+abbrev pub fitsEntries : ℕ → List ℕ → Bool
+fitsEntries e s = eqb (length s) (4 + e * sectionCount s)
+
+-- an entry is offset and length, 16 bytes, in a new record with 2 bytes of rail behind them; the total tells the records apart
 unfoldable pub entrySize : List ℕ → ℕ
-entrySize s = pick (eqb (length s) (4 + 16 * sectionCount s)) 16 18
+entrySize s = pick (fitsEntries 16 s) 16 18
 
 abbrev pub entryOf : ℕ → List ℕ → Section
 entryOf e s = record { offset = be 0 8 s; long = be 8 8 s; rail = be 16 (e - 16) s }
@@ -51,12 +55,11 @@ sections s = sectionsFrom (entrySize s) (sectionCount s) (drop 4 s)
 
 -- 7, 1, 8
 abbrev pub torn : List ℕ → Bool
-torn s =
-    ltb (length s) 4 || (ltb 500 (sectionCount s) || not (eqb (length s) (4 + 16 * sectionCount s) || eqb (length s) (4 + 18 * sectionCount s)))
+torn s = ltb (length s) 4 || (ltb 500 (sectionCount s) || not (fitsEntries 16 s || fitsEntries 18 s))
 
 -- the rule for 7 from before rails were written: old records only
 abbrev pub tornBefore : List ℕ → Bool
-tornBefore s = ltb (length s) 4 || (ltb 500 (sectionCount s) || not (eqb (length s) (4 + 16 * sectionCount s)))
+tornBefore s = ltb (length s) 4 || (ltb 500 (sectionCount s) || not (fitsEntries 16 s))
 
 abbrev pub straightFrom : ℕ → ℕ → ℕ → List Section → Bool
 straightFrom n top end [] = true

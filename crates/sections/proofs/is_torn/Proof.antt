@@ -1,6 +1,6 @@
 -- is_torn: the tests of the length, the count and the totals, one after another.
 use borrow.Author.Needs.{needs}
-use Rattle.sections.proofs.Whole.{torn-short, torn-many, whole-old, torn-long}
+use Rattle.sections.proofs.Torn.{torn-short, torn-many, whole-old, torn-long}
 use Rattle.sections.proofs.is_torn.Statement.{statement}
 use Rattle.sections.proofs.is_torn.Tie as tie
 
