@@ -18,7 +18,7 @@ Before it is measured, all answers are compared. Ratios only; on a busy machine 
 A picture has 60,000 marks in 64 rows, the most that there may be; document 004 has none, so the column beside it stands for its marks, written
 a byte at a time.
 
-Plans have 500 sections; those for look_up are welded in pairs, and half of its windows cross a joint. A smudged window has two unread marks,
+Plans have 500 sections, with rails; those for look_up are welded in pairs, and half of its windows cross a joint. A smudged window has two unread marks,
 and hardly any filling is laid, so that all are tried: 4, 16 and 1,296 on the three strips.
 
 Why the library is slower than the best C, as far as parts of a call were measured by themselves (not in this run):

@@ -61,7 +61,7 @@ enum {
     STRIP_OFF_THE_STRIP = 4,        /* a place is k^n or more */
     STRIP_NO_SUCH_WORD = 5,         /* an index is 0 or above the number of Lyndon words */
     STRIP_TRAY_TOO_SMALL = 6,       /* a tray is shorter than its answer */
-    STRIP_TORN_PLAN = 7,            /* under 4 bytes, more than 500 sections, or a wrong total */
+    STRIP_TORN_PLAN = 7,            /* under 4 bytes, more than 500 sections, or a total that fits neither record */
     STRIP_CROOKED_PLAN = 8,         /* a section is too short, overlaps the one ahead or ends behind the strip */
     STRIP_NOT_LAID = 9,             /* neither in a section nor across a welded joint; nor is a window that agrees */
     STRIP_TOO_SMUDGED = 11,         /* three or more marks were not read */

@@ -19,7 +19,7 @@ const PAIR: usize = 16;
 
 const RAILED: usize = 18;
 
-// Under 4 bytes, too many sections, or a wrong total?
+// Under 4 bytes, too many sections, or a total that fits neither record?
 pub fn is_torn(plan: &[u8]) -> bool
     ensures { λ r. ⌜ r ≡ torn (now (plan .entry)) ⌝ }
 {

@@ -2,13 +2,13 @@
 use mathlib.Core.Path.{_≡_, refl, sym, _∙_, ap}
 use mathlib.Core.Bool.{Bool, true, false, _||_, not, true≢false}
 use mathlib.Core.List.{List, [], _∷_}
-use mathlib.Core.Logic.{_⊎_, inl, inr, _≢_}
+use mathlib.Core.Logic.{_⊎_, inl, inr, ⊎-map, _≢_}
 use Prim.Native.Nat.{ℕ, zero, suc, _+_, _-_, _*_, _^_, _≤_, _<_}
 use native.Mathlib.Omega.{arith}
 use lib.Dec.{eqb, ltb}
 use lib.ListN.{length, take, drop}
 use lib.Seq.{drop-drop}
-use borrow.Author.Tests.{ltb-false, eq-eqb, ne-eqb, eqb-true, eqb-false, not-false}
+use borrow.Author.Tests.{ltb-false, le-ltb, eq-eqb, ne-eqb, eqb-true, eqb-false, not-false}
 use Rattle.theory.specs.Words.{pick}
 use Rattle.theory.specs.Plans.{Section, beFrom, be, shades, marks, sectionCount, fitsEntries, entrySize, entryOf, sectionsFrom, sections, torn, tornBefore, straightFrom, planFault, nthS, railOf}
 use Rattle.theory.specs.Theorems.{Alike, Records}
@@ -31,21 +31,23 @@ tests s total h =
     let (few, fits) = or-false (ltb 500 (sectionCount s)) _ rest in
     (head, few, not-false total fits)
 
--- a plan that is not torn
+-- a plan that is not torn: the total is that of one of the records, so that of its entries
+whole-total : (s : List ℕ) → torn s ≡ false → (sectionCount s ≤ 500) × ((length s ≡ 4 + 16 * sectionCount s) ⊎ (length s ≡ 4 + 18 * sectionCount s))
+whole-total s h =
+    let (_, few, total) = tests s (fitsEntries 16 s || fitsEntries 18 s) h in
+    (ltb-false 500 (sectionCount s) few, ⊎-map (eqb-true _ _) (eqb-true _ _) (or-cases _ _ total))
+
 pub record Whole (s : List ℕ) : Type 0 where
   pub few : sectionCount s ≤ 500
   pub long : length s ≡ 4 + entrySize s * sectionCount s
 
 pub whole : (s : List ℕ) → torn s ≡ false → Whole s
-whole s h =
-    let (_, few, total) = tests s _ h in
-    record { few = ltb-false 500 (sectionCount s) few; long = by-size (or-cases _ _ total) (size-of s) }
+whole s h = let (few, total) = whole-total s h in record { few = few; long = by-size total (size-of s) }
   where
-    by-size : (fitsEntries 16 s ≡ true) ⊎ (fitsEntries 18 s ≡ true) → Size s
-        → length s ≡ 4 + entrySize s * sectionCount s
-    by-size t (old e z) = rw z e
-    by-size (inl t) (new e z) = absurd (e (eqb-true _ _ t))
-    by-size (inr t) (new e z) = rw z (eqb-true _ _ t)
+    by-size : (length s ≡ 4 + 16 * sectionCount s) ⊎ (length s ≡ 4 + 18 * sectionCount s) → Size s → length s ≡ 4 + entrySize s * sectionCount s
+    by-size total (old e z) = rw z e
+    by-size (inl e) (new other z) = absurd (other e)
+    by-size (inr e) (new other z) = rw z e
 
 -- where the numbers of a section stand
 sections-length : (e m : ℕ) (s : List ℕ) → length (sectionsFrom e m s) ≡ m
@@ -120,6 +122,13 @@ both false = refl
 pub records : Records
 records =
     record {
+      taken = λ s. (
+        whole-total s,
+        λ (few, total).
+            let fits : (fitsEntries 16 s || fitsEntries 18 s) ≡ true = elim total [ inl e ↦ rw (eq-eqb (length s) (4 + 16 * sectionCount s) e) | inr e ↦ or-right (fitsEntries 16 s) _ (eq-eqb _ _ e) ] in
+            let head : 4 ≤ length s = elim total [ inl e ↦ omega arith | inr e ↦ omega arith ] in
+            rw (le-ltb (length s) 4 head, le-ltb 500 (sectionCount s) few, fits),
+      );
       old-reader = λ s rest long some.
           let other = ne-eqb (length s) (4 + 16 * sectionCount s) (λ e. omega arith) in
           rw (or-right (ltb (length s) 4) _ (or-right (ltb 500 (sectionCount s)) _ (ap not other)));

@@ -199,10 +199,13 @@ pub record Alike (s r : List ℕ) : Type 0 where
 
 -- Old records of a plan, with entries of 16 bytes, and new ones, with 18.
 pub record Records : Type 0 where
-  -- a reader delivered before, by its rule for 7: it refuses a new record of any section, whatever it looks at after that, and takes old records only
+  -- the records that are taken: up to 500 sections, and the total is that of old entries or that of new ones
+  pub taken : (s : List ℕ)
+      → (torn s ≡ false) ↔ ((sectionCount s ≤ 500) × ((length s ≡ 4 + 16 * sectionCount s) ⊎ (length s ≡ 4 + 18 * sectionCount s)))
+  -- a reader delivered before, by its rule for 7: it refuses a new record that has a section, whatever it looks at after that; what it takes is old records
   pub old-reader : (s : List ℕ) (rest : ℕ) → length s ≡ 4 + 18 * sectionCount s → 1 ≤ sectionCount s → firstOf (when (tornBefore s) 7) rest ≡ 7
   pub old-record : (s : List ℕ) → tornBefore s ≡ false → (torn s ≡ false) × (entrySize s ≡ 16)
-  -- what is taken since then is new records, of one section or more; without sections both are the same
+  -- what is taken beside those is new records that have a section; without sections both are the same
   pub new-record : (s : List ℕ) → torn s ≡ false → tornBefore s ≡ true
       → (length s ≡ 4 + 18 * sectionCount s) × (1 ≤ sectionCount s) × (entrySize s ≡ 18)
   pub no-sections : (s : List ℕ) → sectionCount s ≡ 0 → torn s ≡ tornBefore s

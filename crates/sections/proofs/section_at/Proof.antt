@@ -19,7 +19,10 @@ rail c =
     let f = c .before .before .before in
     let s = f .args .plan .now in
     let start = 4 + c .before .entry-size .result * f .args .i + 16 in
-    ⊎-elim (λ (old, is). is ∙ rail-bytes s start (old .taken)) (λ (new, got, is). is ∙ got .ensures ∙ rail-bytes s start (at (c .before) .railed (new .left))) (c .if1 .came)
+    ⊎-elim
+    (λ (old, is). let none : c .if1 .rail ≡ 0 = is in none ∙ rail-bytes s start (old .taken))
+    (λ (new, got, is). let read : c .if1 .rail ≡ be start 2 s = is ∙ got .ensures in read ∙ rail-bytes s start (at (c .before) .railed (new .left)))
+    (c .if1 .came)
 
 entry-size-requires : tie.Need-entry-size-requires
 entry-size-requires c κs = search needs
