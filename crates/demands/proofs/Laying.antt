@@ -44,8 +44,10 @@ module _ (s : List ℕ) (p : ℕ) (good : planFault s ≡ 0) (laid : laidAt s p 
       let (_, is, ends) = theory.laid-at s p good laid in
       ap (be 2 8) tray ∙ put-read 8 (distanceAt s p) (omega (arith, is, ends, admitted-limits (shades s) (marks s) (theory.plan-good s good .1) .range))
 
-  rail-back : Rail-told s (layingAt s p - 1) t′
-  rail-back bytes = ap (be 10 2) tray ∙ put-read 2 (railOf s (layingAt s p - 1)) (rail-small s (layingAt s p - 1) good (theory.laid-at s p good laid .0) bytes)
+  rail-back : Rail-told s (be 0 2 t′) t′
+  rail-back bytes =
+      let i = layingAt s p - 1 in
+      ap (be 10 2) tray ∙ put-read 2 (railOf s i) (rail-small s i good (theory.laid-at s p good laid .0) bytes) ∙ ap (railOf s) (sym section-back)
 
   place-back : nthS (sections s) (be 0 2 t′) .offset + be 2 8 t′ ≡ p
   place-back = ap₂ (λ i d. nthS (sections s) i .offset + d) section-back distance-back ∙ theory.laid-at s p good laid .1
@@ -59,13 +61,8 @@ told s i d good (fine, laying, distance) t t′ r room e =
     let p = placeOf (shades s) (marks s) w in
     let (number, tray) = into-fine (lookupFault s w) (answerAt s p) t fine room e in
     let there = theory.some-laid s p (λ z. omega (arith, laying)) in
-    let is : layingOf s w - 1 ≡ i = omega (arith, laying) in (
-      number,
-      section-back s p good there t tray ∙ is,
-      distance-back s p good there t tray ∙ distance,
-      subst (λ j. Rail-told s j t′) is (rail-back s p good there t tray),
-      ap (drop answerSize) tray,
-    )
+    let section : be 0 2 t′ ≡ i = section-back s p good there t tray ∙ omega (arith, laying) in
+    (number, section, distance-back s p good there t tray ∙ distance, subst (λ j. Rail-told s j t′) section (rail-back s p good there t tray), ap (drop answerSize) tray)
 
 pub laid : (s : List ℕ) (i d : ℕ) → planFault s ≡ 0 → i < sectionCount s → d + marks s ≤ nthS (sections s) i .long → Section-told s i d
 laid s i d good h fits = told s i d good (theory.laid s i d good h fits)
@@ -89,12 +86,11 @@ laid-only s w t t′ r e z =
     let place = place-back s p good there t tray in
     let lim = admitted-limits (shades s) (marks s) (theory.plan-good s good .1) in
     let (long, letters) = word-fine (shades s) (marks s) w word in
-    let reads = one-place .found (shades s) (marks s) w (lim .two) (lim .some) long letters .1 in
-    let rail = rail-back s p good there t tray in (
+    let reads = one-place .found (shades s) (marks s) w (lim .two) (lim .some) long letters .1 in (
       omega (arith, number, inside),
       subst₂ (Lies (marks s) (sections s)) (sym number) (sym place) lies,
       ap (window (shades s) (marks s)) place ∙ reads,
-      subst (λ i. Rail-told s i t′) (sym number) rail,
+      rail-back s p good there t tray,
     )
 
 -- a smudged window: if a laid one agrees, one is answered
@@ -125,7 +121,7 @@ module _ (s w t t′ : List ℕ) (r : ℕ) (e : SmudgedSays s w t t′ r) where
         omega (arith, number, few),
         ap (layingAt s) place ∙ omega (arith, number, some),
         ap (λ q. agrees w (window (shades s) (marks s) q)) place ∙ agree,
-        subst (λ i. Rail-told s i t′) (sym number) (rail-back s p good there t tray),
+        rail-back s p good there t tray,
         ap (drop answerSize) tray,
       )
 

@@ -1,7 +1,7 @@
 -- `give` puts the section's number, the distance and the rail over the start of a tray that has room for them.
 use mathlib.Core.Path.{_≡_, refl, _∙_, ap}
-use mathlib.Core.List.{_++_}
-use Prim.Native.Nat.{_-_}
+use mathlib.Core.List.{List, _++_}
+use Prim.Native.Nat.{ℕ, _-_}
 use native.Mathlib.Omega.{arith}
 use lib.ListN.{length}
 use borrow.Rule.Slice.PartMut.{putMid}
@@ -17,20 +17,23 @@ use Rattle.lookups.proofs.Laying.{section-inside, starts-before, bytes-
 use Rattle.lookups.proofs.give.Statement.{statement}
 use Rattle.lookups.proofs.give.Tie as tie
 
--- the section is read; the start from there
-abbrev laid : tie.After-section-at → tie.Start
-laid c = c .before .before .before .before
+-- the section is read: the start from there, and the answer's bytes ahead of the rail
+abbrev begun : tie.After-section-at → tie.Start
+begun c = c .before .before .before .before
 
--- its number and the distance are written
-abbrev sections-start : tie.After-put64 → tie.After-section-at
-sections-start c = c .before .before .before .before .before .before .before
+abbrev front : tie.After-section-at → List ℕ
+front c = let a = begun c .args in putBe 2 (a .laying - 1) ++ putBe 8 (a .place - c .section-at .result .offset)
 
-two : (c : tie.After-put64) → let number = c .before .before .before .before in let section = sections-start c in let a = laid section .args in
-    putMid 2 (length (number .put16 .last .1 .0) - 2) (number .put16 .last .1 .0) (c .put64 .last .1 .0) ≡ over (putBe 2 (a .laying - 1) ++ putBe 8 (a .place - section .section-at .result .offset)) (a .tray .now)
-two c =
+-- these are written
+abbrev section-read : tie.After-put64 → tie.After-section-at
+section-read c = c .before .before .before .before .before .before .before
+
+front-written : (c : tie.After-put64) → let number = c .before .before .before .before in let section = section-read c in
+    putMid 2 (length (number .put16 .last .1 .0) - 2) (number .put16 .last .1 .0) (c .put64 .last .1 .0) ≡ over (front section) (begun section .args .tray .now)
+front-written c =
     let number = c .before .before .before .before in
-    let section = sections-start c in
-    let a = laid section .args in
+    let section = section-read c in
+    let a = begun section .args in
     handed-on (putBe 2 (a .laying - 1)) (putBe 8 (a .place - section .section-at .result .offset)) (a .tray .now) (number .put16 .last .1 .0) (c .put64 .last .1 .0) 2 (put-length 2 (a .laying - 1)) (number .put16 .ensures) (c .put64 .ensures) (omega arith)
 
 returns : tie.Need-returns
@@ -61,7 +64,7 @@ put64-requires : tie.Need-put64-requires
 put64-requires c κs = search needs
 
 rail-of-requires : tie.Need-rail-of-requires
-rail-of-requires c κs = let f = laid (sections-start (c .before .before)) in (plan-good (f .args .plan .now) (f .pre .faultless) .0, section-inside (f .pre))
+rail-of-requires c κs = let f = begun (section-read (c .before .before)) in (plan-good (f .args .plan .now) (f .pre .faultless) .0, section-inside (f .pre))
 
 sub-put16 : tie.Need-sub-put16
 sub-put16 c = search needs
@@ -83,11 +86,10 @@ returns-2 c =
     let written = c .before .before in
     let railed = written .before .before in
     let put = railed .before .before .before in
-    let section = sections-start put in
-    let f = laid section in
-    let front = putBe 2 (f .args .laying - 1) ++ putBe 8 (f .args .place - section .section-at .result .offset) in
+    let section = section-read put in
+    let f = begun section in
     into-answer (answerAt (f .args .plan .now) (f .args .place)) (f .args .tray .now) refl (omega arith) refl
-    (handed-on front (putBe 2 (railed .rail-of .result)) (f .args .tray .now) _ (written .put162 .last .1 .0) 10 refl (two put) (written .put162 .ensures) (omega arith)
+    (handed-on (front section) (putBe 2 (railed .rail-of .result)) (f .args .tray .now) _ (written .put162 .last .1 .0) 10 refl (front-written put) (written .put162 .ensures) (omega arith)
     ∙ ap (λ b. over b (f .args .tray .now)) (bytes-are (f .pre) (ap (λ x. x .offset) (section .section-at .ensures)) (railed .rail-of .ensures)))
 
 pub give-spec : {M : Type 1} → statement M

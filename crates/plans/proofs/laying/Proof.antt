@@ -5,8 +5,7 @@ use native.Mathlib.Omega.{arith}
 use borrow.Author.Needs.{needs}
 use Rattle.theory.specs.Plans.{sections}
 use Rattle.theory.proofs.Records.{sections-count}
-use Rattle.theory.proofs.Laying.{plan-good}
-use Rattle.theory.proofs.Laying.{accepted-whole}
+use Rattle.theory.proofs.Laying.{plan-good, accepted-whole}
 use Rattle.sections.specs.Read.{sectionOf}
 use Rattle.plans.specs.Begun.{Begun}
 use Rattle.plans.proofs.Places.{Looked, look, end-fits, nowhere, passed, whole, last, across, parted}
