@@ -1,4 +1,4 @@
--- Plans with the same strip and sections have the same listing: a line has no rail.
+-- Plans with the same strip and sections have the same listing: the line of a section is the same with any rail.
 use mathlib.Core.Path.{_≡_, refl, _∙_, ap, ap₂}
 use mathlib.Core.List.{List, _++_}
 use Prim.Native.Nat.{ℕ, suc}
@@ -6,11 +6,13 @@ use lib.Dec.{eqb}
 use Rattle.theory.specs.Words.{pick}
 use Rattle.theory.specs.Plans.{Section, shades, marks, sections}
 use Rattle.theory.proofs.Records.{Same, none, more, alike-sections, alike-fault}
-use Rattle.listing.specs.Listings.{stripLine, sectionLines, refusedLine, Same-listing}
+use Rattle.listing.specs.Listings.{stripLine, sectionLine, sectionLines, refusedLine, Same-listing}
 
 same-lines : (k n i : ℕ) {xs ys : List Section} → Same xs ys → sectionLines k n i xs ≡ sectionLines k n i ys
 same-lines k n i none = refl
-same-lines k n i (more (offset, long) rest) = rw (offset, long, same-lines k n (suc i) rest)
+same-lines k n i (more (offset, long) rest) =
+    let line : ℕ → ℕ → List ℕ = λ o l. sectionLine k n i (record { offset = o; long = l; rail = 0 }) in
+    ap₂ _++_ (ap₂ line offset long) (same-lines k n (suc i) rest)
 
 pub same-listing : Same-listing
 same-listing s r a =
