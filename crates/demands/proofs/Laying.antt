@@ -75,6 +75,7 @@ pub laid-only : (s w t t′ : List ℕ) (r : ℕ) → LookupSays s w t t′ r �
     → let i = be 0 2 t′ in
     let p = nthS (sections s) i .offset + be 2 8 t′ in
     (i < sectionCount s) × Lies (marks s) (sections s) i p × (window (shades s) (marks s) p ≡ w) × Rail-told s i t′
+    × (drop answerSize t′ ≡ drop answerSize t)
 laid-only s w t t′ r e z =
     let p = placeOf (shades s) (marks s) w in
     let (fine, _, over-it) = answered (lookupFault s w) (pick (eqb (lookupFault s w) 0) (answerAt s p) []) t e z in
@@ -91,6 +92,7 @@ laid-only s w t t′ r e z =
       subst₂ (Lies (marks s) (sections s)) (sym number) (sym place) lies,
       ap (window (shades s) (marks s)) place ∙ reads,
       rail-back s p good there t tray,
+      ap (drop answerSize) tray,
     )
 
 -- a smudged window: if a laid one agrees, one is answered

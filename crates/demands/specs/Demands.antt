@@ -147,6 +147,7 @@ pub record Demands : Type 0 where
       → let i = be 0 2 t′ in
       let p = nthS (sections s) i .offset + be 2 8 t′ in
       (i < sectionCount s) × Lies (marks s) (sections s) i p × (window (shades s) (marks s) p ≡ w) × Rail-told s i t′
+      × (drop answerSize t′ ≡ drop answerSize t)
   -- Smudged windows: look_up_smudged answers if some laid window agrees with what was read, and at most two marks were not. Which one it picks is free, so
   -- the third demand's last sentence, section and distance of the window that was read, holds here for windows read in full: `smudged-plain`, with `laid`
   pub smudged : (s w : List ℕ) (p : ℕ) (t t′ : List ℕ) (r : ℕ) → planFault s ≡ 0 → p < shades s ^ marks s → laidAt s p ≡ true
