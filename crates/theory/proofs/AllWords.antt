@@ -8,10 +8,10 @@ use native.Mathlib.Omega.{arith}
 use native.Mathlib.Nat.{pow-zero, pow-succ'}
 use lib.ListN.{length, length-append}
 use Rattle.theory.specs.Words.{withFirst, eachFirst, allWords, marksOk}
-use Rattle.theory.specs.Lists.{In, here, there, Ascending}
+use Rattle.theory.specs.Lists.{In, here, there, Ascending, each}
 use Rattle.theory.proofs.Base.{cmp, less, equal, more}
 use Rattle.theory.proofs.Order.{Lt, now, later, below-lt, lt-below}
-use Rattle.theory.proofs.Lists.{in-nil, in-append-left, in-append-right, in-append-cases, each, Image, image, each-in, in-each, each-length, ascend-append}
+use Rattle.theory.proofs.Lists.{in-nil, in-append-left, in-append-right, in-append-cases, Image, image, each-in, in-each, each-length, ascend-append}
 use Rattle.theory.proofs.Letters.{marks-cons, marks-head, marks-tail}
 
 first-each : (a : ℕ) (ws : List (List ℕ)) → withFirst a ws ≡ each (λ w. a ∷ w) ws

@@ -8,10 +8,10 @@ use native.Mathlib.Omega.{arith}
 use native.Mathlib.Nat.{le-antisymm}
 use lib.ListN.{length, length-append}
 use Rattle.theory.specs.Words.{pick, when, keep}
-use Rattle.theory.specs.Lists.{In, here, there, Once}
+use Rattle.theory.specs.Lists.{In, here, there, Once, each, gather}
 use Rattle.theory.specs.Rings.{joined}
 use Rattle.theory.proofs.Base.{test}
-use Rattle.theory.proofs.Lists.{found, in-split, in-rest, each, gather}
+use Rattle.theory.proofs.Lists.{found, in-split, in-rest}
 
 module _ {A : Type 0} where
   -- sums of numbers over a list

@@ -1,13 +1,14 @@
--- Lists in general: members, the members that pass a test, lists without repeats, images; lists of words that ascend.
-use mathlib.Core.Path.{_≡_, refl, sym, _∙_, ap, ap₂, subst}
+-- Lists in general: members, the members that pass a test, lists without repeats, images, numbers in a row; lists of words that ascend, and lists that do by a key.
+use mathlib.Core.Path.{_≡_, refl, sym, _∙_, ap, ap₂, subst, subst₂}
 use mathlib.Core.Bool.{Bool, true, false, false≢true}
 use mathlib.Core.List.{List, [], _∷_, _++_, append-assoc, append-nil}
 use mathlib.Core.Logic.{_⊎_, inl, inr, _≢_}
-use Prim.Native.Nat.{ℕ, zero, suc, _+_, _≤_, _<_}
+use Prim.Native.Nat.{ℕ, zero, suc, _+_, _-_, _≤_, _<_}
 use native.Mathlib.Omega.{arith}
-use lib.ListN.{length, getD, take, drop, take-append-drop}
-use Rattle.theory.specs.Words.{pick, keep}
-use Rattle.theory.specs.Lists.{In, here, there, Ascending, Once, countFrom}
+use native.Mathlib.Nat.{zero-add, add-zero, add-suc, suc-add}
+use lib.ListN.{length, getD, take, drop, length-append, take-append-drop}
+use Rattle.theory.specs.Words.{pick, keep, below}
+use Rattle.theory.specs.Lists.{In, here, there, Ascending, Once, each, gather, countFrom}
 use Rattle.theory.specs.Rings.{joined}
 use Rattle.theory.proofs.Base.{test, cmp, less, equal, more}
 use Rattle.theory.proofs.Order.{Lt, below-lt, lt-below, lt-irrefl}
@@ -75,16 +76,22 @@ module _ {A : Type 0} where
   in-index d (here e) = index 0 (omega arith) (sym e)
   in-index d (there i) = elim (in-index d i) [ index j h e ↦ index (suc j) (omega arith) e ]
 
+  -- one member, if a test holds
+  pub pick-in : (b : Bool) {x y : A} → In x (pick b (y ∷ []) []) → (b ≡ true) × (x ≡ y)
+  pick-in true (here e) = (refl, e)
+  pick-in true (there i) = absurd (in-nil i)
+  pick-in false i = absurd (in-nil i)
+
+  pub in-pick : {b : Bool} {y : A} → b ≡ true → In y (pick b (y ∷ []) [])
+  in-pick {b} t = rw t (here refl)
+
   -- the members that pass a test
   pub keep-in : (f : A → Bool) (xs : List A) {x : A} → In x (keep f xs) → In x xs × (f x ≡ true)
   keep-in f [] i = absurd (in-nil i)
-  keep-in f (y ∷ xs) {x} i =
-      elim (in-append-cases (pick (f y) (y ∷ []) []) i) [ inl j ↦ front (f y) refl j | inr j ↦ let r = keep-in f xs j in (there (r .0), r .1) ]
-    where
-      front : (b : Bool) → f y ≡ b → In x (pick b (y ∷ []) []) → In x (y ∷ xs) × (f x ≡ true)
-      front true t (here e) = (here e, rw e t)
-      front true t (there j) = absurd (in-nil j)
-      front false t j = absurd (in-nil j)
+  keep-in f (y ∷ xs) i = elim (in-append-cases (pick (f y) (y ∷ []) []) i) [
+    | inl j ↦ let (t, e) = pick-in (f y) j in (here e, ap f e ∙ t)
+    | inr j ↦ let r = keep-in f xs j in (there (r .0), r .1)
+  ]
 
   pub in-keep : (f : A → Bool) {xs : List A} {x : A} → In x xs → f x ≡ true → In x (keep f xs)
   in-keep f {x = x} (here {y = y} e) h = let t : f y ≡ true = ap f (sym e) ∙ h in rw t (here e)
@@ -136,10 +143,6 @@ module _ {A : Type 0} where
 
 -- images; lists gathered from several
 module _ {A B : Type 0} where
-  abbrev pub each : (A → B) → List A → List B
-  each f [] = []
-  each f (x ∷ xs) = f x ∷ each f xs
-
   pub data Image (f : A → B) (y : B) (xs : List A) : Type 0 where
     image : (x : A) → In x xs → y ≡ f x → Image f y xs
 
@@ -152,6 +155,10 @@ module _ {A B : Type 0} where
   in-each f (here e) = here (ap f e)
   in-each f (there i) = there (in-each f i)
 
+  pub each-append : (f : A → B) (xs ys : List A) → each f (xs ++ ys) ≡ each f xs ++ each f ys
+  each-append f [] ys = refl
+  each-append f (x ∷ xs) ys = ap (λ r. f x ∷ r) (each-append f xs ys)
+
   pub each-length : (f : A → B) (xs : List A) → length (each f xs) ≡ length xs
   each-length f [] = refl
   each-length f (x ∷ xs) = ap suc (each-length f xs)
@@ -162,10 +169,6 @@ module _ {A B : Type 0} where
     λ i. elim (each-in f xs i) [ image z j e ↦ p .0 (subst (λ r. In r xs) (sym (h x z (here refl) (there j) e)) j) ],
     each-once f xs (p .1) (λ y z i j. h y z (there i) (there j)),
   )
-
-  abbrev pub gather : (A → List B) → List A → List B
-  gather f [] = []
-  gather f (x ∷ xs) = f x ++ gather f xs
 
   pub data Gathered (f : A → List B) (y : B) (xs : List A) : Type 0 where
     gathered : (x : A) → In x xs → In y (f x) → Gathered f y xs
@@ -180,6 +183,10 @@ module _ {A B : Type 0} where
   pub in-gather : (f : A → List B) {xs : List A} {x : A} {y : B} → In x xs → In y (f x) → In y (gather f xs)
   in-gather f {y = y} (here {ys = ys} e) j = in-append-left (gather f ys) (subst (λ r. In y (f r)) e j)
   in-gather f (there {y = z} i) j = in-append-right (f z) (in-gather f i j)
+
+  pub gather-append : (f : A → List B) (xs ys : List A) → gather f (xs ++ ys) ≡ gather f xs ++ gather f ys
+  gather-append f [] ys = refl
+  gather-append f (x ∷ xs) ys = ap (λ r. f x ++ r) (gather-append f xs ys) ∙ sym (append-assoc (f x) (gather f xs) (gather f ys))
 
   pub gather-once : (f : A → List B) (xs : List A) → Once xs → ((x : A) → In x xs → Once (f x))
       → ((x y : A) (z : B) → In x xs → In y xs → In z (f x) → In z (f y) → x ≡ y) → Once (gather f xs)
@@ -198,9 +205,31 @@ pub in-count : (l a d : ℕ) → a ≤ d → d < a + l → In d (countFrom l a)
 in-count zero a d h k = absurd (omega arith)
 in-count (suc l) a d h k = elim (cmp a d) [ less q ↦ there (in-count l (suc a) d q (omega arith)) | equal q ↦ here (sym q) | more q ↦ absurd (omega arith) ]
 
+pub count-length : (l a : ℕ) → length (countFrom l a) ≡ l
+count-length zero a = refl
+count-length (suc l) a = ap suc (count-length l (suc a))
+
 pub count-once : (l a : ℕ) → Once (countFrom l a)
 count-once zero a = tt
 count-once (suc l) a = (λ i. let r = count-in l (suc a) i in omega (arith, r .0), count-once l (suc a))
+
+-- in two parts
+count-split : (i l a : ℕ) → countFrom (i + l) a ≡ countFrom i a ++ countFrom l (a + i)
+count-split zero l a = ap₂ countFrom (zero-add l) (sym (add-zero a))
+count-split (suc i) l a = ap (λ m. countFrom m a) (suc-add i l) ∙ ap (λ r. a ∷ r) (count-split i l (suc a) ∙ ap (λ b. countFrom i (suc a) ++ countFrom l b) (suc-add a i ∙ sym (add-suc a i)))
+
+-- what they have, one after the other: of one number more; of fewer it is no more
+module _ {A : Type 0} (f : ℕ → List A) where
+  gather-split : (i l a : ℕ) → gather f (countFrom (i + l) a) ≡ gather f (countFrom i a) ++ gather f (countFrom l (a + i))
+  gather-split i l a = ap (gather f) (count-split i l a) ∙ gather-append f (countFrom i a) (countFrom l (a + i))
+
+  pub gather-next : (i a : ℕ) → gather f (countFrom (i + 1) a) ≡ gather f (countFrom i a) ++ f (a + i)
+  gather-next i a = gather-split i 1 a ∙ ap (λ r. gather f (countFrom i a) ++ r) (append-nil (f (a + i)))
+
+  pub gather-part : (i m a : ℕ) → i ≤ m → length (gather f (countFrom i a)) ≤ length (gather f (countFrom m a))
+  gather-part i m a h =
+      let e : i + (m - i) ≡ m = omega arith in
+      omega (arith, ap (λ x. length (gather f (countFrom x a))) (sym e), ap length (gather-split i (m - i) a), length-append (gather f (countFrom i a)) (gather f (countFrom (m - i) (a + i))))
 
 -- the numbers below n, the largest first
 abbrev pub span : ℕ → List ℕ
@@ -239,6 +268,34 @@ ascend-append (u ∷ us) vs p q h = (
   λ v i. elim (in-append-cases us i) [ inl j ↦ p .0 v j | inr j ↦ lt-below (h u v (here refl) j) ],
   ascend-append us vs (p .1) q (λ w v i j. h w v (there i) j),
 )
+
+-- lists whose members ascend by a key
+module _ {A : Type 0} (key : A → List ℕ) where
+  pub key-append : (xs ys : List A) → Ascending (each key xs) → Ascending (each key ys) → ((x y : A) → In x xs → In y ys → Lt (key x) (key y))
+      → Ascending (each key (xs ++ ys))
+  key-append xs ys p q h = rw (each-append key xs ys) (ascend-append (each key xs) (each key ys) p q between)
+    where
+      between : (u v : List ℕ) → In u (each key xs) → In v (each key ys) → Lt u v
+      between u v i j = elim (each-in key xs i) [ image x a e ↦ elim (each-in key ys j) [ image y b g ↦ subst₂ Lt (sym e) (sym g) (h x y a b) ] ]
+
+  pub key-one : (b : Bool) (x : A) → Ascending (each key (pick b (x ∷ []) []))
+  key-one true x = (λ v i. absurd (in-nil i), tt)
+  key-one false x = tt
+
+  pub key-keep : (f : A → Bool) (xs : List A) → Ascending (each key xs) → Ascending (each key (keep f xs))
+  key-keep f [] p = tt
+  key-keep f (x ∷ xs) p = elim (test (f x)) [ inl t ↦ rw t (first, key-keep f xs (p .1)) | inr t ↦ rw t (key-keep f xs (p .1)) ]
+    where
+      first : (v : List ℕ) → In v (each key (keep f xs)) → below (key x) v ≡ true
+      first v i = elim (each-in key (keep f xs) i) [ image y j e ↦ p .0 v (subst (λ r. In r (each key xs)) (sym e) (in-each key (keep-in f xs j .0))) ]
+
+  pub key-count : (f : ℕ → List A) (l a : ℕ) → ((i : ℕ) → a ≤ i → Ascending (each key (f i)))
+      → ((i j : ℕ) (x y : A) → i < j → In x (f i) → In y (f j) → Lt (key x) (key y)) → Ascending (each key (gather f (countFrom l a)))
+  key-count f zero a p h = tt
+  key-count f (suc l) a p h = key-append (f a) (gather f (countFrom l (suc a))) (p a (omega arith)) (key-count f l (suc a) (λ i g. p i (omega arith)) h) behind
+    where
+      behind : (x y : A) → In x (f a) → In y (gather f (countFrom l (suc a))) → Lt (key x) (key y)
+      behind x y i j = elim (gather-in f (countFrom l (suc a)) j) [ gathered b m n ↦ h a b x y (count-in l (suc a) m .0) i n ]
 
 pub ascend-apart : (us vs : List (List ℕ)) → Ascending (us ++ vs) → (u v : List ℕ) → In u us → In v vs → Lt u v
 ascend-apart [] vs p u v i j = absurd (in-nil i)

@@ -12,11 +12,11 @@ use lib.Dec.{eqb}
 use lib.ListN.{length}
 use borrow.Author.Tests.{eqb-true, eqb-false, eq-eqb, ne-eqb, le-leb, lt-leb, not-true}
 use Rattle.theory.specs.Words.{pick, keep}
-use Rattle.theory.specs.Lists.{In, here, there, Once, countFrom}
+use Rattle.theory.specs.Lists.{In, here, there, Once, countFrom, each}
 use Rattle.theory.specs.Sums.{dividesSome, isPrime, primesFrom, mobius, less, scaled, divisors}
 use Rattle.theory.proofs.Base.{test, and-l, and-r, and-in, or-cases, cmp, equal, more, or-right, same-test}
 use Rattle.theory.proofs.Base as base
-use Rattle.theory.proofs.Lists.{keep-in, in-keep, keep-once, in-count, count-once, each, image, each-in, each-length, each-once}
+use Rattle.theory.proofs.Lists.{keep-in, in-keep, keep-once, in-count, count-once, image, each-in, each-length, each-once}
 use Rattle.theory.proofs.Counts.{sum, length-keep, once-le, once-eq}
 use Rattle.theory.proofs.Divisors.{Div, times, test-div, div-test, div-trans, div-times, div-le, div-some, divisors-in, in-divisors, divisors-once}
 use Rattle.theory.proofs.Primes.{Prime, prime-out, prime-in, primal, prime-divisor, euclid}

@@ -6,9 +6,9 @@ use Prim.Native.Nat.{ℕ, suc, _≤_, _<_}
 use native.Mathlib.Omega.{arith}
 use lib.ListN.{length}
 use Rattle.theory.specs.Words.{root, marksOk, allWords, keep}
-use Rattle.theory.specs.Lists.{In, Once}
+use Rattle.theory.specs.Lists.{In, Once, each}
 use Rattle.theory.specs.Rings.{ring, windowOn, placeOn}
-use Rattle.theory.proofs.Lists.{keep-in, keep-once, ascend-once, each, each-in, each-length, each-once, Image, image, span, in-span, span-length}
+use Rattle.theory.proofs.Lists.{keep-in, keep-once, ascend-once, each-in, each-length, each-once, Image, image, span, in-span, span-length}
 use Rattle.theory.proofs.Counts.{onto}
 use Rattle.theory.proofs.Listed.{all-words, all-ascend}
 use Rattle.theory.proofs.Reading.{find-first, first-least}

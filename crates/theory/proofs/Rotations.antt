@@ -10,11 +10,11 @@ use native.Mathlib.Nat.{suc-mul, mul-div-cancel}
 use lib.ListN.{length, take, drop, length-append, take-append-drop}
 use lib.Seq.{length-take-le}
 use Rattle.theory.specs.Words.{turned, smallest, repeated, root, isLyndon, marksOk, allWords, keep, powerTo}
-use Rattle.theory.specs.Lists.{In, Once}
+use Rattle.theory.specs.Lists.{In, Once, each, gather}
 use Rattle.theory.specs.Rings.{divides, Allowed, ringWords, ring}
 use Rattle.theory.proofs.Base.{and-l, and-r, and-in, upto, over, split, and-true}
 use Rattle.theory.proofs.Order.{Lt, Prefix, prefix}
-use Rattle.theory.proofs.Lists.{keep-in, in-keep, keep-all, keep-once, ascend-once, each, each-in, in-each, each-length, each-once, image, gather, gather-in, in-gather, gather-once, gathered, span, span-in, in-span, span-once, span-length}
+use Rattle.theory.proofs.Lists.{keep-in, in-keep, keep-all, keep-once, ascend-once, each-in, in-each, each-length, each-once, image, gather-in, in-gather, gather-once, gathered, span, span-in, in-span, span-once, span-length}
 use Rattle.theory.proofs.Counts.{sum, sum-ext, keep-same, once-eq, gather-length, joined-length}
 use Rattle.theory.proofs.Letters.{marks-left, marks-repeated}
 use Rattle.theory.proofs.Lyndon.{Lyndon, Necklace, turned-parts, lyndon-in, lyndon-out}

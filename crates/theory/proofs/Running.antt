@@ -13,11 +13,11 @@ use lib.ListN.{length, take}
 use lib.Seq.{length-take-le}
 use borrow.Author.Tests.{le-leb, lt-leb, eqb-true, eqb-false, ne-eqb, eq-eqb}
 use Rattle.theory.specs.Words.{pick, when, keep}
-use Rattle.theory.specs.Lists.{In, here, there, Once, countFrom}
+use Rattle.theory.specs.Lists.{In, here, there, Once, countFrom, each}
 use Rattle.theory.specs.Rings.{divides}
 use Rattle.theory.specs.Sums.{cs, mobius, less, plus, scaled, sumFrom, divisors, running, rankTerm, countTerm}
 use Rattle.theory.proofs.Base.{test, upto, over, split}
-use Rattle.theory.proofs.Lists.{keep-in, in-keep, keep-once, in-count, each, image, each-in, in-each, each-once}
+use Rattle.theory.proofs.Lists.{keep-in, in-keep, keep-once, in-count, image, each-in, in-each, each-once}
 use Rattle.theory.proofs.Counts.{sum, sum-ext, sum-le, sum-times, sum-when, once-sum, once-sum-le, each-sum}
 use Rattle.theory.proofs.Divisors.{Div, times, div-mod, div-some, divides-out, divides-in, divisors-in, in-divisors, divisors-once}
 pub use Rattle.theory.proofs.Mobius.{plusOne, minusOne, one-small, mobius-is, scaled-is, signs-sum}

@@ -8,14 +8,14 @@ use native.Mathlib.Omega.{arith}
 use lib.ListN.{length, take, drop, length-append, length-drop, take-append-drop}
 use lib.Seq.{length-take-le, take-append-seam, drop-append-seam}
 use Rattle.theory.specs.Words.{same, upTo, smallest, allWords, keep, marksOk}
-use Rattle.theory.specs.Lists.{In, Once}
+use Rattle.theory.specs.Lists.{In, Once, each, gather}
 use Rattle.theory.specs.Sums.{cs}
 use Rattle.theory.specs.Automaton.{run, returning, pathsTo}
 use Rattle.theory.specs.Theorems.{Automaton}
 use Rattle.theory.specs.Prenecklaces.{Prenecklace}
 use Rattle.theory.proofs.Base.{cancel-right, refute, refuted}
 use Rattle.theory.proofs.Order.{same-eq, same-refl, eq-same}
-use Rattle.theory.proofs.Lists.{keep-in, in-keep, keep-once, each, image, each-in, in-each, each-length, each-once, gather, gathered, gather-in, in-gather, gather-once, span, span-in, in-span, span-once, ascend-once}
+use Rattle.theory.proofs.Lists.{keep-in, in-keep, keep-once, image, each-in, in-each, each-length, each-once, gathered, gather-in, in-gather, gather-once, span, span-in, in-span, span-once, ascend-once}
 use Rattle.theory.proofs.Counts.{sum, sum-ext, once-eq, gather-length, keep-both}
 use Rattle.theory.proofs.Letters.{marks-left, marks-take, marks-append}
 use Rattle.theory.proofs.Lyndon.{pre-prefix}
