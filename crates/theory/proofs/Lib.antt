@@ -33,6 +33,7 @@ pub mod Faults
 pub mod Records
 pub mod Laying
 pub mod Erasures
+pub mod Substitutions
 pub mod Levels
 pub mod Primes
 pub mod Mobius

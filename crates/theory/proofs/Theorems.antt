@@ -13,6 +13,7 @@ use Rattle.theory.proofs.Strips.{cursors}
 use Rattle.theory.proofs.Records.{records}
 use Rattle.theory.proofs.Laying.{laid, laid-across, laid-where, laid-each, laid-only, laid-at}
 use Rattle.theory.proofs.Erasures.{smudged}
+use Rattle.theory.proofs.Substitutions.{misread-laws}
 use Rattle.theory.proofs.BySum.{summed}
 use Rattle.theory.proofs.Floors.{floors}
 use Rattle.theory.proofs.Ends.{ends, strip-ends, short-ends}
@@ -41,6 +42,7 @@ theorems =
       laid-only = laid-only;
       laid-at = laid-at;
       smudged = smudged;
+      misread = misread-laws;
       summed = summed;
       floors = floors;
       ends = ends;

@@ -11,5 +11,6 @@ pub mod Steps
 pub mod Strips
 pub mod Plans
 pub mod Erasures
+pub mod Substitutions
 pub mod Marked
 pub mod Theorems

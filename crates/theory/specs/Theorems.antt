@@ -8,7 +8,7 @@ use lib.IntN.{ℤ, pos, natAbs}
 use lib.Dec.{eqb, ltb, leb}
 use lib.ListN.{length, getD, take, drop, replicate}
 use Rattle.theory.specs.Words.{pick, firstOf, when, same, below, upTo, turned, isLyndon, smallest, leastTurn, repeated, root, Primitive, allWords, keep, lyndons, howMany, rank, wordOf, marksOk, powerTo}
-use Rattle.theory.specs.Lists.{In, Ascending, Once}
+use Rattle.theory.specs.Lists.{In, Ascending, Once, each}
 use Rattle.theory.specs.Sums.{cs, mobius, divisors, running, rankTerm, countTerm, By-sum}
 use Rattle.theory.specs.Floors.{isNecklace, necklaceUpTo, necklaceBelow, floorFrom}
 use Rattle.theory.specs.Automaton.{run, returning, pathsTo}
@@ -18,6 +18,7 @@ use Rattle.theory.specs.Steps.{extension, nextLyndon, previousLyndon, pe
 use Rattle.theory.specs.Strips.{admitted, stripWords, strip, markAt, marksFrom, window, placeOf, cursorOk, placeIn, cursorAt, stepOf, backOf}
 use Rattle.theory.specs.Plans.{Section, be, endOf, planFault, sectionCount, shades, marks, entrySize, sections, torn, tornBefore, welded, nthS, railOf, layingAt, laidAt, distanceAt, lookupFault, layingOf, distanceOf}
 use Rattle.theory.specs.Erasures.{unread, read, agrees, fitting, filling, smudgeFault, smudgedFault}
+use Rattle.theory.specs.Substitutions.{Change, changed, changes, newPlace, misread, keyOf}
 use Rattle.theory.specs.Marked.{Marked}
 
 -- The lists hold just the words that they should, ascending, so each once.
@@ -299,6 +300,25 @@ pub record Smudged : Type 0 where
   pub in-full : (s w : List ℕ) → keep unread w ≡ []
       → (smudgedFault s w ≡ lookupFault s w) × (lookupFault s w ≡ 0 → (p : ℕ) → In p (fitting s w) → p ≡ placeOf (shades s) (marks s) w)
 
+-- Single substitutions of a window.
+pub record Misread : Type 0 where
+  -- a word so changed differs from the word in that letter alone
+  pub changed-is : (w v : List ℕ) (c : Change) → c .mark < length w
+      → (changed c w ≡ v) ↔ ((length v ≡ length w) × (getD v (c .mark) 0 ≡ c .shade) × ((j : ℕ) → j ≢ c .mark → getD v j 0 ≡ getD w j 0))
+  -- the changes that are tried: each letter of the word to each other one; two of them give two words
+  pub changes-are : (k : ℕ) (w : List ℕ) (c : Change) → marksOk k w ≡ true
+      → In c (changes k w) ↔ ((c .mark < length w) × (c .shade < k) × (c .shade ≢ getD w (c .mark) 0))
+  pub changes-many : (k : ℕ) (w : List ℕ) → marksOk k w ≡ true → length (changes k w) ≡ length w * (k - 1)
+  pub apart : (w : List ℕ) (c d : Change) → c .mark < length w → d .mark < length w → c .shade ≢ getD w (c .mark) 0 → changed c w ≡ changed d w → c ≡ d
+  -- those that are listed: the window so changed is laid
+  pub misread-are : (s w : List ℕ) (c : Change) → marksOk (shades s) w ≡ true
+      → In c (misread s w) ↔ ((c .mark < length w) × (c .shade < shades s) × (c .shade ≢ getD w (c .mark) 0) × (laidAt s (newPlace s w c) ≡ true))
+  -- in their order, each once: the smallest change first, then the earlier letter, then the lower new one
+  pub ordered : (s w : List ℕ) → Ascending (each (keyOf w) (misread s w))
+  -- how many there are, at most
+  pub few : (s w : List ℕ) → marksOk (shades s) w ≡ true → length (misread s w) ≤ length w * (shades s - 1)
+  pub most : (k n : ℕ) → admitted k n ≡ true → n * (k - 1) ≤ 385
+
 -- The sums of document 004, section 3: Möbius values over the divisors, the rank (Lemma 9) and the number of Lyndon words; the order
 -- of summation does not matter, and no running sum is large.
 pub record Summed : Type 0 where
@@ -383,6 +403,7 @@ pub record Theorems : Type 0 where
   pub laid-only : Laid-only
   pub laid-at : Laid-at
   pub smudged : Smudged
+  pub misread : Misread
   pub summed : Summed
   pub floors : Floors
   pub ends : (ok : ℕ → Bool) (k n : ℕ) → 1 ≤ n → Allowed n ok → Ends ok k n
