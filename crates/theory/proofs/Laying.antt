@@ -276,6 +276,9 @@ laid-some s p laid = eqb-false (layingAt s p) 0 (not-true _ laid)
 pub some-laid : (s : List ℕ) (p : ℕ) → ¬ (layingAt s p ≡ 0) → laidAt s p ≡ true
 some-laid s p some = ap not (ne-eqb (layingAt s p) 0 some)
 
+pub none-laid : (s : List ℕ) (p : ℕ) → layingAt s p ≡ 0 → laidAt s p ≡ false
+none-laid s p none = ap not (eq-eqb (layingAt s p) 0 none)
+
 -- the section that a laid window is answered with
 lies-there : (s : List ℕ) (p : ℕ) → planFault s ≡ 0 → ¬ (layingAt s p ≡ 0) → Lies (marks s) (sections s) (layingAt s p - 1) p
 lies-there s p good some = laying-lies s good (omega (arith, some))

@@ -6,7 +6,7 @@ use mathlib.Core.Logic.{inl, inr}
 use Prim.Native.Nat.{ℕ, zero, suc, _≤_, _<_}
 use native.Mathlib.Omega.{arith}
 use lib.Dec.{ltb}
-use lib.ListN.{length, getD, take, drop, replicate}
+use lib.ListN.{length, getD, set, take, drop, replicate}
 use borrow.Author.Tests.{ltb-true, lt-ltb}
 use Rattle.theory.specs.Words.{repeated, marksOk}
 use Rattle.theory.specs.Lists.{In, here, there}
@@ -69,6 +69,11 @@ marks-joined k (w ∷ ws) h = marks-append k w (joined ws) (h w (here refl)) (ma
 
 pub marks-getD : (k : ℕ) (w : List ℕ) (i : ℕ) → i < length w → marksOk k w ≡ true → getD w i 0 < k
 marks-getD k w i l h = marks-in k w h (getD w i 0) (getD-in w i 0 l)
+
+pub marks-set : (k : ℕ) (w : List ℕ) (i a : ℕ) → a < k → marksOk k w ≡ true → marksOk k (set w i a) ≡ true
+marks-set k [] i a h ok = refl
+marks-set k (b ∷ w) zero a h ok = marks-cons k a w h (marks-tail k b w ok)
+marks-set k (b ∷ w) (suc i) a h ok = marks-cons k b (set w i a) (marks-head k b w ok) (marks-set k w i a h (marks-tail k b w ok))
 
 pub marks-letter : (k : ℕ) (p : List ℕ) (a : ℕ) (s : List ℕ) → marksOk k (p ++ (a ∷ s)) ≡ true → a < k
 marks-letter k p a s h = marks-head k a s (marks-right k p (a ∷ s) h)

@@ -1,0 +1,3 @@
+-- Laws of entries that are written one after the other, and of one of them.
+pub mod Writing
+pub mod Changing
