@@ -1,0 +1,2 @@
+-- Laws of looking for a window in a plan.
+pub mod Looking

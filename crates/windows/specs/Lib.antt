@@ -1,0 +1,2 @@
+-- What looking for a window in a plan answers.
+pub mod Looks
