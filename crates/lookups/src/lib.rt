@@ -7,6 +7,7 @@ use calls::Checked;
 use calls::refusals;
 use fitting::Fit;
 use shape::Strip;
+use windows::Looked;
 
 // The answer's bytes: the section's number in 2, the distance in 8, the rail in 2; where the last two begin, and how many there are.
 const DISTANCE: usize = 2;
@@ -41,31 +42,13 @@ pub fn check_plan(plan: &[u8]) -> u8
     }
 }
 
-// In a plan that is accepted, laid on the strip.
-fn look_in(plan: &[u8], strip: Strip, window: &[u8], tray: &mut [u8]) -> u8
-    requires { ⌜ Accepted (now plan) strip ⌝ }
-    ensures { λ r. ⌜ LookupSays (now (plan .entry)) (now (window .entry)) (now (tray .entry)) (now (tray .exit)) r ⌝ }
-{
-    match calls::check_word(strip.k, strip.n, window) {
-        Checked::Refused(number) => number,
-        Checked::Strip(_) => {
-            let place = locator::place_of(strip, window);
-            let laying = plans::laying(plan, place);
-            if laying == 0 {
-                return refusals::NOT_LAID;
-            }
-            give(plan, place, laying, tray)
-        }
-    }
-}
-
 // The section that a window is read in, its distance from the section's start, and the section's rail.
 pub fn look_up(plan: &[u8], window: &[u8], tray: &mut [u8]) -> u8
     ensures { λ r. ⌜ LookupSays (now (plan .entry)) (now (window .entry)) (now (tray .entry)) (now (tray .exit)) r ⌝ }
 {
-    match plans::open(plan) {
-        Checked::Refused(number) => number,
-        Checked::Strip(strip) => look_in(plan, strip, window, tray),
+    match windows::look(plan, window) {
+        Looked::Refused(number) => number,
+        Looked::Laid(spot) => give(plan, spot.place, spot.laying, tray),
     }
 }
 

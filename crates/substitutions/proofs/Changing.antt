@@ -1,13 +1,12 @@
 -- One change: the window so changed is a word of the strip, and what is written of it if it is laid, and if it is not; a change down and one up.
 use mathlib.Core.Path.{_≡_, refl, sym, _∙_, ap, ap₂, subst}
 use mathlib.Core.Bool.{true, false}
-use mathlib.Core.List.{List, [], _∷_, _++_}
-use Prim.Native.Nat.{ℕ, _+_, _-_, _*_, _^_, _≤_, _<_}
+use mathlib.Core.List.{List, [], _∷_}
+use Prim.Native.Nat.{ℕ, _+_, _-_, _^_, _≤_, _<_}
 use native.Mathlib.Omega.{arith}
 use lib.ListN.{length, getD, set, take, drop}
 use borrow.Rule.Slice.PartMut.{putMid}
 use borrow.Author.Tests.{lt-ltb, le-ltb, le-leb, lt-leb}
-use Rattle.theory.specs.Words.{marksOk}
 use Rattle.theory.specs.Strips.{placeOf}
 use Rattle.theory.specs.Plans.{layingAt, laidAt}
 use Rattle.theory.specs.Substitutions.{Change, change, changed, changesDown, changesUp, newPlace}

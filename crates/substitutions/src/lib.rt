@@ -1,7 +1,7 @@
 // The single substitutions of a window that give a laid window, the paper's changes of one mark, as a list of entries over the start of a buffer. Each
 // function writes those of some changes, in their order, and answers how many it wrote.
 ghost use mathlib.Core.List.{[], _∷_};
-ghost use Prim.Native.Nat.{_≤_, _<_};
+ghost use Prim.Native.Nat.{_<_};
 ghost use lib.ListN.{length, getD};
 ghost use Rattle.theory.specs.Substitutions.{change, changesDown, changesUp, changesAt, changesFor, changes};
 ghost use Rattle.substitutions.specs.Entries.{Writes, Wrote};

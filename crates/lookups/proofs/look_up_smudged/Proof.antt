@@ -1,7 +1,6 @@
 -- `look_up_smudged` opens the plan, and looks for a window that fits in one that is accepted; a refusal leaves the tray as it was.
 use borrow.Author.Needs.{needs}
-use Rattle.plans.proofs.Opening.{accepted}
-use Rattle.lookups.proofs.Laying.{plan-fault}
+use Rattle.plans.proofs.Opening.{accepted, plan-fault}
 use Rattle.lookups.proofs.Fitting.{smudged-refused}
 use Rattle.lookups.proofs.look_up_smudged.Statement.{statement}
 use Rattle.lookups.proofs.look_up_smudged.Tie as tie

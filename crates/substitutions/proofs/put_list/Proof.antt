@@ -5,7 +5,6 @@ use native.Mathlib.Omega.{arith}
 use lib.ListN.{length}
 use borrow.Author.Needs.{needs}
 use Rattle.theory.specs.Substitutions.{changesFor}
-use Rattle.shape.proofs.Limits.{limits}
 use Rattle.substitutions.proofs.Writing.{Writing, writing-none, writing-size, writing-few, writing-done, writing-room, writing-more}
 use Rattle.substitutions.proofs.put_list.Statement.{statement}
 use Rattle.substitutions.proofs.put_list.Tie as tie
