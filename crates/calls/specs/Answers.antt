@@ -17,6 +17,14 @@ Into f b t t′ r = let n = firstOf f (when (ltb (length t) (length b)) 6) in (r
 abbrev pub IntoValue : ℕ → ℕ → List ℕ → List ℕ → List ℕ → DV.Value → Type 0
 IntoValue f v b t t′ r = Into f b t t′ (r .number) × (r .value ≡ pick (eqb (r .number) 0) v 0)
 
+-- a fault, then 6 if a tray is too short for a number
+abbrev pub orShort : ℕ → List ℕ → ℕ
+orShort f s = firstOf f (when (ltb (length s) 8) 6)
+
+-- the same with the value as 8 bytes in a tray of its own, which holds s at the call and s′ at the return; if either tray is too small, both stay
+abbrev pub IntoBoth : ℕ → ℕ → List ℕ → List ℕ → List ℕ → List ℕ → List ℕ → ℕ → Type 0
+IntoBoth f v b s s′ t t′ r = let g = orShort f s in Into g (pick (eqb g 0) b []) t t′ r × (s′ ≡ pick (eqb r 0) (over (putBe 8 v) s) s)
+
 -- a number as 8 bytes
 abbrev pub Number : ℕ → ℕ → List ℕ → List ℕ → ℕ → Type 0
 Number f v t t′ r = Into f (pick (eqb f 0) (putBe 8 v) []) t t′ r

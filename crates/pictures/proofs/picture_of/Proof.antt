@@ -1,10 +1,17 @@
 -- `picture_of` puts the file and its size into their trays; a refusal leaves both as they were.
+use mathlib.Core.Path.{sym, _∙_, ap}
 use native.Mathlib.Omega.{arith}
+use lib.ListN.{length}
 use borrow.Author.Needs.{needs}
+use Rattle.theory.specs.Words.{firstOf}
+use Rattle.buffers.specs.Buffers.{over}
+use Rattle.numbers.specs.Numbers.{putBe}
 use Rattle.calls.specs.Refusals.{pictureFault}
 use Rattle.calls.proofs.Checks.{refused-by}
+use Rattle.calls.proofs.Answers.{both-refused, both-short, both-small, both-answer}
+use Rattle.pbm.specs.Pictures.{picture}
 use Rattle.pictures.proofs.Framing.{Passed, checked}
-use Rattle.pictures.proofs.Answering.{both-refused, size-small, tray-small, both-answer}
+use Rattle.pictures.proofs.Answering.{drawn-on}
 use Rattle.pictures.proofs.picture_of.Statement.{statement}
 use Rattle.pictures.proofs.picture_of.Tie as tie
 
@@ -33,14 +40,16 @@ returns : tie.Need-returns
 returns c =
     let at = c .before .before in
     let a = at .before .before .before .before .before .before .args in
-    size-small (known at) (a .size .now) (a .tray .now) (omega arith)
+    let b = picture (a .k) (a .n) (a .place) (a .width) (a .height) in
+    both-short (pictureFault (a .k) (a .n) (a .place) (a .width) (a .height)) (length b) b (a .size .now) (a .tray .now) (omega arith) (sym (ap (λ f. firstOf f 6) (known at .fine)))
 
 returns-2 : tie.Need-returns-2
 returns-2 c =
     let size = c .before .before in
     let at = size .before in
     let a = at .before .before .before .before .before .before .args in
-    tray-small (known at) (a .size .now) (a .tray .now) (omega arith) (omega (arith, size .size .ensures))
+    let b = picture (a .k) (a .n) (a .place) (a .width) (a .height) in
+    both-small (pictureFault (a .k) (a .n) (a .place) (a .width) (a .height)) (length b) b (a .size .now) (a .tray .now) (known at .fine) (omega arith) (omega (arith, known at .long, size .size .ensures))
 
 write-requires : tie.Need-write-requires
 write-requires c κs =
@@ -56,7 +65,8 @@ returns-3 c =
     let checked = c .before .before .before in
     let a = checked .before .before .before .args in
     let (is, some) = refused-by (pictureFault (a .k) (a .n) (a .place) (a .width) (a .height)) (a .k) (a .n) (checked .check .ensures) (c .before .number .given .1) in
-    both-refused (a .k) (a .n) (a .place) (a .width) (a .height) (a .size .now) (a .tray .now) is some
+    let b = picture (a .k) (a .n) (a .place) (a .width) (a .height) in
+    both-refused (pictureFault (a .k) (a .n) (a .place) (a .width) (a .height)) (length b) b (a .size .now) (a .tray .now) is some
 
 same-length : tie.Need-same-length
 same-length c = search needs
@@ -71,7 +81,9 @@ returns-4 c =
     let size = write .before .before .before .before in
     let at = size .before in
     let a = at .before .before .before .before .before .before .args in
-    both-answer (known at) (a .size .now) (a .tray .now) (omega arith) (omega (arith, size .size .ensures)) (size .size .ensures) (write .write .ensures) (put .put64 .ensures)
+    let b = picture (a .k) (a .n) (a .place) (a .width) (a .height) in
+    let told = put .put64 .ensures ∙ ap (λ v. over (putBe 8 v) (a .size .now)) (size .size .ensures ∙ sym (known at .long)) in
+    both-answer (pictureFault (a .k) (a .n) (a .place) (a .width) (a .height)) (length b) b (a .size .now) (a .tray .now) (known at .fine) (omega arith) (omega (arith, known at .long, size .size .ensures)) (drawn-on (known at) (a .tray .now) (write .write .ensures)) told
 
 pub picture-of-spec : {M : Type 1} → statement M
 picture-of-spec =

@@ -1,0 +1,2 @@
+-- Laws of a list of misreadings.
+pub mod Listing

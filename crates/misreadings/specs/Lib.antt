@@ -1,0 +1,2 @@
+-- What the calls on misreadings promise.
+pub mod Says
