@@ -10,6 +10,7 @@ use Rattle.demands.proofs.Marks.{marked, placed, place-back, window-bac
 use Rattle.demands.proofs.Pictures.{picture-back, picture-both, picture-by-rows}
 use Rattle.demands.proofs.Walking.{started, not-started, stands, step, not-stepped, undone, walk, both-ways}
 use Rattle.demands.proofs.Laying.{laid, laid-across, laid-only, smudged, smudged-only, smudged-plain}
+use Rattle.demands.proofs.Misread.{misread-told, misread-answers, misread-both}
 
 pub demands : Demands
 demands = record {
@@ -52,4 +53,7 @@ demands = record {
   smudged = smudged;
   smudged-only = smudged-only;
   smudged-plain = λ s w t t′ r full e. smudged-plain s w t t′ r e full;
+  misread = misread-told;
+  misread-answers = misread-answers;
+  misread-both = misread-both;
 }

@@ -7,4 +7,5 @@ pub mod Marks
 pub mod Pictures
 pub mod Walking
 pub mod Laying
+pub mod Misread
 pub mod Kept

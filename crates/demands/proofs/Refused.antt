@@ -21,14 +21,16 @@ use Rattle.theory.proofs.Faults.{first-assoc, first-either, word-fine}
 use Rattle.theory.proofs.Laying as theory
 use Rattle.theory.proofs.Erasures.{fitting-in, in-fitting}
 use Rattle.calls.specs.Order.{rule, given}
+use Rattle.calls.specs.Answers.{orShort}
 use Rattle.calls.specs.Refusals.{theWordFault, indexFault, placeFault, framed, pictureFault}
 use Rattle.calls.proofs.Order.{given-none, given-first}
 use Rattle.pbm.specs.Pictures.{fileSize}
 use Rattle.lookups.specs.Says.{answerSize}
+use Rattle.misreadings.specs.Says.{listSize}
 use Rattle.cursors.specs.declared.Cursor as DC
 use Rattle.cursors.specs.Cursors.{cursorIn, tidy, cursorFault}
-use Rattle.demands.specs.Refused.{markRules, wordRules, placeRules, indexRules, cursorRules, planRules, layingRules, smudgedRules, pictureRules, trayRules, traysRules, Refusals}
-use Rattle.demands.proofs.Trays.{answer-number, rotation-answers, turn-answers, rank-answers, word-answers, mark-answers, place-answers, print-answers, picture-answers, both-answers, look-up-answers, smudged-answers}
+use Rattle.demands.specs.Refused.{markRules, wordRules, placeRules, indexRules, cursorRules, planRules, layingRules, smudgedRules, pictureRules, trayRules, Refusals}
+use Rattle.demands.proofs.Trays.{answer-number, rotation-answers, turn-answers, rank-answers, word-answers, mark-answers, place-answers, print-answers, picture-answers, picture-of-answers, look-up-answers, smudged-answers, misreadings-answers, misreadings-of-answers}
 use Rattle.calls.proofs.Numbers.{strip-number, marks-number, word-number, place-number, cursor-number, plan-number, word-tray-number, place-tray-number, index-tray-number, laying-tray-number, smudged-tray-number, picture-tray-number}
 
 -- the faults of each kind of argument, alone and with a tray of m bytes
@@ -50,10 +52,9 @@ index-tray k n i t m = index-tray-number (not (admitted k n)) (eqb i 0 || ltb (h
 picture-tray : (k n p c h : ℕ) (small : Bool) → firstOf (pictureFault k n p c h) (when small 6) ≡ given (pictureRules k n p c h ++ (rule 6 small ∷ []))
 picture-tray k n p c h = picture-tray-number (not (admitted k n)) (not (eqb k 2)) (leb (k ^ n) p) (not (framed c h))
 
-picture-trays : (k n p c h : ℕ) (s t : List ℕ) (m : ℕ) → firstOf (firstOf (pictureFault k n p c h) (when (ltb (length s) 8) 6)) (when (ltb (length t) m) 6) ≡ given (pictureRules k n p c h ++ traysRules s 8 t m)
-picture-trays k n p c h s t m =
-    first-assoc (pictureFault k n p c h) (when (ltb (length s) 8) 6) (when (ltb (length t) m) 6) ∙ ap (firstOf (pictureFault k n p c h)) (first-either (ltb (length s) 8) (ltb (length t) m) 5)
-    ∙ picture-tray k n p c h (ltb (length s) 8 || ltb (length t) m)
+-- with two trays
+two-trays : (f : ℕ) (s t : List ℕ) (m : ℕ) → firstOf (orShort f s) (when (ltb (length t) m) 6) ≡ firstOf f (when (ltb (length s) 8 || ltb (length t) m) 6)
+two-trays f s t m = first-assoc f (when (ltb (length s) 8) 6) (when (ltb (length t) m) 6) ∙ ap (firstOf f) (first-either (ltb (length s) 8) (ltb (length t) m) 5)
 
 cursor-given : (c : DC.Cursor) → cursorFault c ≡ given (cursorRules c)
 cursor-given c = cursor-number (not (admitted (c .k) (c .n))) (not (tidy c && cursorOk (cursorIn c)))
@@ -64,10 +65,10 @@ plan-given s = plan-number (torn s) (not (admitted (shades s) (marks s))) (not (
 marks-given : (k n : ℕ) (w : List ℕ) → wordFault k n w ≡ given (markRules k n w)
 marks-given k n w = marks-number (not (eqb (length w) n)) (not (marksOk k w))
 
-laying-tray : (s w t : List ℕ) (m : ℕ) → firstOf (lookupFault s w) (when (ltb (length t) m) 6) ≡ given (layingRules s w ++ trayRules t m)
-laying-tray s w t m =
+laying-tray : (s w : List ℕ) (small : Bool) → firstOf (lookupFault s w) (when small 6) ≡ given (layingRules s w ++ (rule 6 small ∷ []))
+laying-tray s w =
     laying-tray-number (torn s) (not (admitted (shades s) (marks s))) (not (straightFrom (marks s) (shades s ^ marks s) 0 (sections s)))
-    (not (eqb (length w) (marks s))) (not (marksOk (shades s) w)) (eqb (layingOf s w) 0) (ltb (length t) m)
+    (not (eqb (length w) (marks s))) (not (marksOk (shades s) w)) (eqb (layingOf s w) 0)
 
 smudged-tray : (s w t : List ℕ) (m : ℕ) → firstOf (smudgedFault s w) (when (ltb (length t) m) 6) ≡ given (smudgedRules s w ++ trayRules t m)
 smudged-tray s w t m =
@@ -126,10 +127,12 @@ refusals = record {
   place-of = λ k n w t t′ r e. answer-number (place-answers k n w t t′ r e) ∙ word-tray k n w t 8;
   print-marks = λ k n p c t t′ r e. answer-number (print-answers k n p c t t′ r e) ∙ place-tray k n p t c;
   print-picture = λ k n p c h t t′ r e. answer-number (picture-answers k n p c h t t′ r e) ∙ picture-tray k n p c h (ltb (length t) (fileSize c h));
-  picture-of = λ k n p c h s s′ t t′ r e. answer-number (both-answers k n p c h s s′ t t′ r e) ∙ picture-trays k n p c h s t (fileSize c h);
+  picture-of = λ k n p c h s s′ t t′ r e. answer-number (picture-of-answers k n p c h s s′ t t′ r e) ∙ two-trays (pictureFault k n p c h) s t (fileSize c h) ∙ picture-tray k n p c h (ltb (length s) 8 || ltb (length t) (fileSize c h));
   check-plan = λ s r e. e ∙ plan-given s;
-  look-up = λ s w t t′ r e. answer-number (look-up-answers s w t t′ r e) ∙ laying-tray s w t answerSize;
+  look-up = λ s w t t′ r e. answer-number (look-up-answers s w t t′ r e) ∙ laying-tray s w (ltb (length t) answerSize);
   look-up-smudged = λ s w t t′ r e. answer-number (smudged-answers s w t t′ r e) ∙ smudged-tray s w t answerSize;
+  misreadings = λ s w t t′ r e. answer-number (misreadings-answers s w t t′ r e) ∙ laying-tray s w (ltb (length t) (listSize s w));
+  misreadings-of = λ s w c c′ t t′ r e. answer-number (misreadings-of-answers s w c c′ t t′ r e) ∙ two-trays (lookupFault s w) c t (listSize s w) ∙ laying-tray s w (ltb (length c) 8 || ltb (length t) (listSize s w));
   start-cursor = λ k n p r e. e .0 ∙ place-given k n p;
   cursor-place = λ c r e. e .0 ∙ cursor-given c;
   step = λ c r e. e .0 ∙ cursor-given c;

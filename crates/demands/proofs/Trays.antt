@@ -14,6 +14,7 @@ use Rattle.theory.specs.Words.{pick, pickT, firstOf, when, smallest, leastTurn,
 use Rattle.theory.specs.Strips.{admitted, stripFault, markAt, marksFrom, placeOf, strip}
 use Rattle.theory.specs.Plans.{be, shades, marks, lookupFault}
 use Rattle.theory.specs.Erasures.{smudgedFault}
+use Rattle.theory.specs.Substitutions.{misread}
 use Rattle.theory.proofs.Base.{test}
 use Rattle.theory.proofs.Necklaces.{smallest-length}
 use Rattle.theory.proofs.Reading.{letters-length}
@@ -24,7 +25,7 @@ use Rattle.numbers.specs.Numbers.{putBe}
 use Rattle.buffers.proofs.Bytes.{over-length}
 use Rattle.numbers.proofs.Numbers.{put-read}
 use Rattle.calls.specs.declared.Value as DV
-use Rattle.calls.specs.Answers.{Into, IntoValue, Number, ValueIs}
+use Rattle.calls.specs.Answers.{Into, IntoValue, orShort, IntoBoth, Number, ValueIs}
 use Rattle.calls.specs.Refusals.{theWordFault, indexFault, placeFault, pictureFault}
 use Rattle.calls.proofs.Answers.{into-given, number-answer}
 use Rattle.ranking.proofs.Indexes.{index-range, index-long}
@@ -35,6 +36,8 @@ use Rattle.pbm.specs.Pictures.{picture, fileSize}
 use Rattle.pictures.specs.Says.{PictureSays, BothSay}
 use Rattle.pictures.proofs.Framing.{file-long}
 use Rattle.lookups.specs.Says.{answerAt, answerSize, LookupSays, Picked, SmudgedSays}
+use Rattle.substitutions.proofs.Writing.{entries-long}
+use Rattle.misreadings.specs.Says.{entriesOf, listSize, MisreadingsSays, MisreadingListSays}
 use Rattle.demands.specs.Trays.{Keeps, Trays}
 
 -- no fault, so the answer over the start of the tray
@@ -155,25 +158,23 @@ print-answers k n p c t t′ r e =
     let long = letters-length (k ^ n) (strip k n) p c in
     answers (marksFrom k n p c) (λ _. long) (print-into (placeFault k n p) c (marksFrom k n p c) t t′ r long e)
 
--- a picture's file; with the tray of its size, a size that does not fit counts as a fault
+-- a picture's file
 pub picture-answers : (k n p c h : ℕ) (t t′ : List ℕ) (r : DV.Value) → PictureSays k n p c h t t′ r → Answers (fileSize c h) (pictureFault k n p c h) t t′ (r .number)
 picture-answers k n p c h t t′ r e = answers (picture k n p c h) (file-long k n p c h) (e .0)
 
-pub both-answers : (k n p c h : ℕ) (s s′ t t′ : List ℕ) (r : ℕ) → BothSay k n p c h s s′ t t′ r
-    → Answers (fileSize c h) (firstOf (pictureFault k n p c h) (when (ltb (length s) 8) 6)) t t′ r
-both-answers k n p c h s s′ t t′ r e = answers (picture k n p c h) (λ z. file-long k n p c h (first-none (pictureFault k n p c h) _ z .0)) (e .0)
-
-size-keeps : (k n p c h : ℕ) (s s′ t t′ : List ℕ) (r : ℕ) → BothSay k n p c h s s′ t t′ r → Keeps 8 s s′ r
-size-keeps k n p c h s s′ t t′ r e = elim (ℕ-discrete r 0) [
+-- an answer with its value in another tray, of which a value that does not fit counts as a fault: what stays in that tray
+value-keeps : (f v : ℕ) (b s s′ t t′ : List ℕ) (r : ℕ) → IntoBoth f v b s s′ t t′ r → Keeps 8 s s′ r
+value-keeps f v b s s′ t t′ r e = elim (ℕ-discrete r 0) [
   | yes z ↦
-      let f = firstOf (pictureFault k n p c h) (when (ltb (length s) 8) 6) in
-      let fine : f ≡ 0 = answered f (pick (eqb f 0) (picture k n p c h) []) t (e .0) z .0 in
-      let room : 8 ≤ length s = ltb-false (length s) 8 (when-none _ 6 (λ y. omega arith) (first-none (pictureFault k n p c h) _ fine .1)) in
-      let v = length (picture k n p c h) in
+      let fine : orShort f s ≡ 0 = answered (orShort f s) (pick (eqb (orShort f s) 0) b []) t (e .0) z .0 in
+      let room : 8 ≤ length s = ltb-false (length s) 8 (when-none _ 6 (λ y. omega arith) (first-none f _ fine .1)) in
       let is : s′ ≡ over (putBe 8 v) s = rw z at e .1 in
       keeps {f = 0} (answers (putBe 8 v) (λ _. refl) (number-answer v s refl room z is))
   | no z ↦ let same : s′ ≡ s = rw (ne-eqb r 0 z) at e .1 in (λ _. same, ap length same, ap (drop 8) same)
 ]
+
+pub picture-of-answers : (k n p c h : ℕ) (s s′ t t′ : List ℕ) (r : ℕ) → BothSay k n p c h s s′ t t′ r → Answers (fileSize c h) (orShort (pictureFault k n p c h) s) t t′ r
+picture-of-answers k n p c h s s′ t t′ r e = answers (picture k n p c h) (λ z. file-long k n p c h (first-none (pictureFault k n p c h) _ z .0)) (e .0)
 
 pub look-up-answers : (s w t t′ : List ℕ) (r : ℕ) → LookupSays s w t t′ r → Answers answerSize (lookupFault s w) t t′ r
 look-up-answers s w t t′ r e = answers (answerAt s (placeOf (shades s) (marks s) w)) (λ _. refl) e
@@ -191,6 +192,13 @@ smudged-answers s w t t′ r e = elim (ℕ-discrete (smudgedFault s w) 0) [
   | no some ↦ answers [] (λ z. absurd (some z)) (smudged-refusal s w t t′ r e some [])
 ]
 
+-- a list of misreadings
+pub misreadings-answers : (s w t t′ : List ℕ) (r : DV.Value) → MisreadingsSays s w t t′ r → Answers (listSize s w) (lookupFault s w) t t′ (r .number)
+misreadings-answers s w t t′ r e = answers (entriesOf s w) (λ _. entries-long s w (misread s w)) (e .0)
+
+pub misreadings-of-answers : (s w c c′ t t′ : List ℕ) (r : ℕ) → MisreadingListSays s w c c′ t t′ r → Answers (listSize s w) (orShort (lookupFault s w) c) t t′ r
+misreadings-of-answers s w c c′ t t′ r e = answers (entriesOf s w) (λ _. entries-long s w (misread s w)) (e .0)
+
 pub trays : Trays
 trays = record {
   smallest-rotation = λ k n w t t′ r e. keeps (rotation-answers k n w t t′ r e);
@@ -201,7 +209,9 @@ trays = record {
   place-of = λ k n w t t′ r e. keeps (place-answers k n w t t′ r e);
   print-marks = λ k n p c t t′ r e. keeps (print-answers k n p c t t′ r e);
   print-picture = λ k n p c h t t′ r e. keeps (picture-answers k n p c h t t′ r e);
-  picture-of = λ k n p c h s s′ t t′ r e. (size-keeps k n p c h s s′ t t′ r e, keeps (both-answers k n p c h s s′ t t′ r e));
+  picture-of = λ k n p c h s s′ t t′ r e. (value-keeps (pictureFault k n p c h) (length (picture k n p c h)) (picture k n p c h) s s′ t t′ r e, keeps (picture-of-answers k n p c h s s′ t t′ r e));
   look-up = λ s w t t′ r e. keeps (look-up-answers s w t t′ r e);
   look-up-smudged = λ s w t t′ r e. keeps (smudged-answers s w t t′ r e);
+  misreadings = λ s w t t′ r e. keeps (misreadings-answers s w t t′ r e);
+  misreadings-of = λ s w c c′ t t′ r e. (value-keeps (lookupFault s w) (length (misread s w)) (entriesOf s w) c c′ t t′ r e, keeps (misreadings-of-answers s w c c′ t t′ r e));
 }

@@ -1,16 +1,17 @@
 -- The three demands as one record: the theorems about the definitions, and what follows for the bytes that the calls leave in trays.
--- A call's promise says what it gives for every argument (specs/Says of words, ranking, marks, pictures and lookups; Cursors of cursors): here it stands as a premise.
+-- A call's promise says what it gives for every argument (specs/Says of words, ranking, marks, pictures, lookups and misreadings; Cursors of cursors): here it stands as a premise.
 use mathlib.Core.Path.{_≡_}
 use mathlib.Core.Bool.{Bool, true, not}
 use mathlib.Core.List.{List, [], _++_}
 use mathlib.Core.Logic.{_↔_, _≢_}
-use Prim.Native.Nat.{ℕ, suc, _+_, _^_, _≤_, _<_}
+use Prim.Native.Nat.{ℕ, suc, _+_, _*_, _^_, _≤_, _<_}
 use lib.ListN.{length, getD, take, drop, replicate}
 use Rattle.theory.specs.Words.{below, upTo, turned, repeated, powerTo, keep, marksOk, isLyndon, howMany, rank, wordOf}
 use Rattle.theory.specs.Rings.{modulo, pathEnd, pathLetters}
 use Rattle.theory.specs.Strips.{admitted, strip, markAt, marksFrom, window, placeIn}
 use Rattle.theory.specs.Plans.{be, shades, marks, sectionCount, sections, welded, nthS, planFault, railOf, layingAt, laidAt}
 use Rattle.theory.specs.Erasures.{unread, agrees}
+use Rattle.theory.specs.Substitutions.{Change, change, changed, keyOf}
 use Rattle.theory.specs.Theorems.{Lies, Theorems}
 use Rattle.buffers.specs.Buffers.{over}
 use Rattle.numbers.specs.Numbers.{putBe}
@@ -25,6 +26,7 @@ use Rattle.pbm.specs.Parts.{Frame, partsRoom}
 use Rattle.pictures.specs.Says.{PictureSays, BothSay}
 use Rattle.pictures.specs.Requests.{pictureFor, PartsSay}
 use Rattle.lookups.specs.Says.{answerSize, LookupSays, SmudgedSays}
+use Rattle.misreadings.specs.Says.{MisreadingsSays, MisreadingListSays}
 use Rattle.listing.specs.Listings.{Same-listing}
 use Rattle.cursors.specs.declared.Cursor as DC
 use Rattle.cursors.specs.declared.Started as DS
@@ -49,6 +51,30 @@ abbrev pub Section-told : List ℕ → ℕ → ℕ → Type 0
 Section-told s i d =
     (t t′ : List ℕ) (r : ℕ) → answerSize ≤ length t → LookupSays s (window (shades s) (marks s) (nthS (sections s) i .offset + d)) t t′ r
     → (r ≡ 0) × (be 0 2 t′ ≡ i) × (be 2 8 t′ ≡ d) × Rail-told s i t′ × (drop answerSize t′ ≡ drop answerSize t)
+
+-- a change of one mark of a window to another shade, after which the window is read at a place where it is laid
+pub record Nearby (s w : List ℕ) (c : Change) (p : ℕ) : Type 0 where
+  pub inside : c .mark < length w
+  pub shade : c .shade < shades s
+  pub other : c .shade ≢ getD w (c .mark) 0
+  pub on-strip : p < shades s ^ marks s
+  pub reads : window (shades s) (marks s) p ≡ changed c w
+  pub laid : laidAt s p ≡ true
+
+-- entry i of a list in a tray: the change, and the new window's place
+abbrev pub changeIn : List ℕ → ℕ → Change
+changeIn t i = change (be (10 * i) 1 t) (be (10 * i + 1) 1 t)
+
+abbrev pub newPlaceIn : List ℕ → ℕ → ℕ
+newPlaceIn t i = be (10 * i + 2) 8 t
+
+-- a list of so many entries is told of a window: each nearby change is in it, no other is, and they stand in their order, so none is there twice; the bytes
+-- behind the list stay
+pub record List-told (s w t t′ : List ℕ) (count : ℕ) : Type 0 where
+  pub all : (c : Change) (p : ℕ) → Nearby s w c p → (i : ℕ) × (i < count) × (changeIn t′ i ≡ c) × (newPlaceIn t′ i ≡ p)
+  pub only : (i : ℕ) → i < count → Nearby s w (changeIn t′ i) (newPlaceIn t′ i)
+  pub ordered : (i j : ℕ) → i < j → j < count → below (keyOf w (changeIn t′ i)) (keyOf w (changeIn t′ j)) ≡ true
+  pub behind : drop (10 * count) t′ ≡ drop (10 * count) t
 
 pub record Demands : Type 0 where
   pub theorems : Theorems
@@ -160,3 +186,11 @@ pub record Demands : Type 0 where
       × (drop answerSize t′ ≡ drop answerSize t)
   -- of a window that was read in full it answers what look_up does, byte for byte
   pub smudged-plain : (s w t t′ : List ℕ) (r : ℕ) → keep unread w ≡ [] → SmudgedSays s w t t′ r → LookupSays s w t t′ r
+  -- Misreadings: misreadings lists the changes of one mark of a laid window that give a laid window
+  pub misread : (s w t t′ : List ℕ) (r : DV.Value) → MisreadingsSays s w t t′ r → r .number ≡ 0 → List-told s w t t′ (r .value)
+  -- and answers for each window that is laid, given 3,850 bytes, which hold any list
+  pub misread-answers : (s : List ℕ) (p : ℕ) (t t′ : List ℕ) (r : DV.Value) → planFault s ≡ 0 → laidAt s p ≡ true → 3850 ≤ length t
+      → MisreadingsSays s (window (shades s) (marks s) p) t t′ r → r .number ≡ 0
+  -- misreadings_of, with 8 bytes for the number of entries, gives the same number, the same list, and as many entries
+  pub misread-both : (s w c c′ t t′ u : List ℕ) (r : DV.Value) (q : ℕ) → 8 ≤ length c → MisreadingsSays s w t t′ r → MisreadingListSays s w c c′ t u q
+      → (q ≡ r .number) × (u ≡ t′) × (q ≡ 0 → be 0 8 c′ ≡ r .value)

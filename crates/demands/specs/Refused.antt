@@ -21,6 +21,7 @@ use Rattle.marks.specs.Says.{MarkSays, PlaceSays, PrintSays}
 use Rattle.pbm.specs.Pictures.{fileSize}
 use Rattle.pictures.specs.Says.{PictureSays, BothSay}
 use Rattle.lookups.specs.Says.{answerSize, PlanSays, LookupSays, SmudgedSays}
+use Rattle.misreadings.specs.Says.{listSize, MisreadingsSays, MisreadingListSays}
 use Rattle.cursors.specs.declared.Cursor as DC
 use Rattle.cursors.specs.declared.Started as DS
 use Rattle.cursors.specs.declared.Stepped as DT
@@ -93,6 +94,8 @@ pub record Refusals : Type 0 where
   pub check-plan : (s : List ℕ) (r : ℕ) → PlanSays s r → r ≡ given (planRules s)
   pub look-up : (s w t t′ : List ℕ) (r : ℕ) → LookupSays s w t t′ r → r ≡ given (layingRules s w ++ trayRules t answerSize)
   pub look-up-smudged : (s w t t′ : List ℕ) (r : ℕ) → SmudgedSays s w t t′ r → r ≡ given (smudgedRules s w ++ trayRules t answerSize)
+  pub misreadings : (s w t t′ : List ℕ) (r : DV.Value) → MisreadingsSays s w t t′ r → r .number ≡ given (layingRules s w ++ trayRules t (listSize s w))
+  pub misreadings-of : (s w c c′ t t′ : List ℕ) (r : ℕ) → MisreadingListSays s w c c′ t t′ r → r ≡ given (layingRules s w ++ traysRules c 8 t (listSize s w))
   pub start-cursor : (k n p : ℕ) (r : DS.Started) → StartSays k n p r → r .number ≡ given (placeRules k n p)
   pub cursor-place : (c : DC.Cursor) (r : DV.Value) → WhereSays c r → r .number ≡ given (cursorRules c)
   pub step : (c : DC.Cursor) (r : DT.Stepped) → StepSays c r → r .number ≡ given (cursorRules c)

@@ -11,6 +11,7 @@ use Rattle.marks.specs.Says.{MarkSays, PlaceSays, PrintSays}
 use Rattle.pbm.specs.Pictures.{fileSize}
 use Rattle.pictures.specs.Says.{PictureSays, BothSay}
 use Rattle.lookups.specs.Says.{answerSize, LookupSays, SmudgedSays}
+use Rattle.misreadings.specs.Says.{listSize, MisreadingsSays, MisreadingListSays}
 
 -- with an answer of b bytes: a refusal leaves the tray as it was, its length never changes, and the bytes after the first b stay
 abbrev pub Keeps : ℕ → List ℕ → List ℕ → ℕ → Type 0
@@ -28,3 +29,5 @@ pub record Trays : Type 0 where
   pub picture-of : (k n p c h : ℕ) (s s′ t t′ : List ℕ) (r : ℕ) → BothSay k n p c h s s′ t t′ r → Keeps 8 s s′ r × Keeps (fileSize c h) t t′ r
   pub look-up : (s w t t′ : List ℕ) (r : ℕ) → LookupSays s w t t′ r → Keeps answerSize t t′ r
   pub look-up-smudged : (s w t t′ : List ℕ) (r : ℕ) → SmudgedSays s w t t′ r → Keeps answerSize t t′ r
+  pub misreadings : (s w t t′ : List ℕ) (r : DV.Value) → MisreadingsSays s w t t′ r → Keeps (listSize s w) t t′ (r .number)
+  pub misreadings-of : (s w c c′ t t′ : List ℕ) (r : ℕ) → MisreadingListSays s w c c′ t t′ r → Keeps 8 c c′ r × Keeps (listSize s w) t t′ r

@@ -3,6 +3,7 @@ use mathlib.Core.Path.{_≡_}
 use mathlib.Core.Bool.{Bool, true, false}
 use mathlib.Core.List.{List, [], _∷_}
 use Prim.Native.Nat.{ℕ, zero, suc, _^_, _≤_}
+use Rattle.theory.specs.Lists.{each}
 use Rattle.theory.specs.Rings.{modulo, passedTo, passedDown, beside}
 use Rattle.theory.specs.Strips.{markAt, cursorAt, placeIn}
 use Rattle.cursors.specs.declared.Cursor as DC
@@ -41,8 +42,7 @@ pub data Followed (promise : Bool → DC.Cursor → DT.Stepped → Type 0) : DC.
 
 -- one field of each answer
 abbrev pub fields : (DT.Stepped → ℕ) → List DT.Stepped → List ℕ
-fields f [] = []
-fields f (q ∷ qs) = f q ∷ fields f qs
+fields f qs = each f qs
 
 -- the words passed by c steps from a place on: from the word that holds a place to the one that holds the next; and along a path
 abbrev pub heldAt : ℕ → ℕ → ℕ → List ℕ

@@ -1,6 +1,6 @@
 -- What the calls on misreadings promise. A tray holds t at the call and t′ at the return; for C, c and c′ are those of the number of entries.
 use mathlib.Core.List.{List, []}
-use Prim.Native.Nat.{ℕ}
+use Prim.Native.Nat.{ℕ, _*_}
 use lib.Dec.{eqb}
 use lib.ListN.{length}
 use Rattle.theory.specs.Words.{pick}
@@ -13,6 +13,10 @@ use Rattle.substitutions.specs.Entries.{listBytes}
 -- the list: an entry for each change of one letter of a laid window that gives a laid window
 abbrev pub entriesOf : List ℕ → List ℕ → List ℕ
 entriesOf s w = listBytes s w (misread s w)
+
+-- and how many bytes it has
+abbrev pub listSize : List ℕ → List ℕ → ℕ
+listSize s w = 10 * length (misread s w)
 
 -- the list into the tray, the number of its entries as the value
 abbrev pub MisreadingsSays : List ℕ → List ℕ → List ℕ → List ℕ → DV.Value → Type 0

@@ -5,6 +5,8 @@
 //     s  k, n and a place in 8 bytes each                                        start_cursor
 //     i  k, n, a place, a width and a height in 8 bytes each, the length of      print_picture
 //        the lent tray in 2
+//     m  the length of the lent tray in 2 bytes, the window's in one, a window,  misreadings
+//        a plan
 //     c  a cursor: k, n, the 60 bytes of its word, long, place                   cursor_place, step, step_cursor, step_back
 // tests/replies.py makes asks, and the lines that must come.
 ghost use Prim.Native.Nat.{_+_, _≤_, _<_};
@@ -13,10 +15,12 @@ use calls::Value;
 use cursors::Cursor;
 use cursors::Stepped;
 
-// Bytes of an ask before what is asked, and before its word; of a start, of a picture, of a cursor, and of a cursor's word.
+// Bytes of an ask before what is asked, before its word and before its window; of a start, of a picture, of a cursor, and of a cursor's word.
 const HEAD: usize = 3;
 
 const BEFORE_WORD: usize = 17;
+
+const BEFORE_WINDOW: usize = 3;
 
 const START_BYTES: usize = 24;
 
@@ -29,7 +33,7 @@ const HELD_BYTES: usize = 60;
 // Bytes of the tray, of which the first are lent: more than a word of a strip has.
 const TRAY_BYTES: usize = 64;
 
-// Bytes of the tray for a picture: some of them fit.
+// Bytes of the tray for a picture, or a list: some of them fit.
 const PAPER_BYTES: usize = 512;
 
 // A number, one more in its line.
@@ -190,6 +194,30 @@ fn plan_asked(ask: &[u8]) {
     end();
 }
 
+// misreadings, in the tray's first bytes.
+fn misread(plan: &[u8], window: &[u8], lent: usize, tray: &mut [u8])
+    requires { ⌜ lent ≤ length (now tray) ⌝ }
+{
+    let answer = misreadings::misreadings(plan, window, &mut tray[..lent]);
+    beside(b"misreadings", answer, tray);
+}
+
+// An ask for what may be misread, in a tray of 170s.
+fn misread_asked(ask: &[u8]) {
+    if ask.len() < BEFORE_WINDOW {
+        return;
+    }
+    let lent = size(ask, 0);
+    let end = BEFORE_WINDOW + wide(ask[2]) as usize;
+    if ask.len() < end {
+        return;
+    }
+    if lent <= PAPER_BYTES {
+        let mut tray = [170u8; PAPER_BYTES];
+        misread(&ask[end..], &ask[BEFORE_WINDOW..end], lent, &mut tray);
+    }
+}
+
 // An ask for a start.
 fn start_asked(ask: &[u8]) {
     if ask.len() < START_BYTES {
@@ -239,6 +267,7 @@ fn answer(letter: u8, ask: &[u8]) {
     match letter {
         b'w' => word_asked(ask),
         b'p' => plan_asked(ask),
+        b'm' => misread_asked(ask),
         b's' => start_asked(ask),
         b'i' => picture_asked(ask),
         b'c' => cursor_asked(ask),

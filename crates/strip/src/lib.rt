@@ -3,6 +3,7 @@ ghost use Rattle.words.specs.Says.{TurnSays};
 ghost use Rattle.ranking.specs.Says.{RankSays, WordSays};
 ghost use Rattle.marks.specs.Says.{MarkSays, PlaceSays, PrintSays};
 ghost use Rattle.lookups.specs.Says.{LookupSays, SmudgedSays};
+ghost use Rattle.misreadings.specs.Says.{MisreadingListSays};
 ghost use Rattle.pictures.specs.Says.{BothSay};
 
 // The turn from a word to its smallest rotation, as 8 bytes.
@@ -67,6 +68,20 @@ pub extern "C" fn look_up_smudged(plan: &[u8], window: &[u8], tray: &mut [u8]) -
     ensures { λ r. ⌜ SmudgedSays (now (plan .entry)) (now (window .entry)) (now (tray .entry)) (now (tray .exit)) r ⌝ }
 {
     lookups::look_up_smudged(plan, window, tray)
+}
+
+// The changes of one mark of a laid window that give a laid window, as entries of 10 bytes in the tray's first bytes; how many there are, as 8 bytes in a
+// tray of its own.
+#[no_mangle]
+pub extern "C" fn misreadings_of(
+    plan: &[u8],
+    window: &[u8],
+    count: &mut [u8],
+    tray: &mut [u8],
+) -> u8
+    ensures { λ r. ⌜ MisreadingListSays (now (plan .entry)) (now (window .entry)) (now (count .entry)) (now (count .exit)) (now (tray .entry)) (now (tray .exit)) r ⌝ }
+{
+    misreadings::misreadings_of(plan, window, count, tray)
 }
 
 // A picture of the marks from a place on, as a plain PBM file in the tray's first bytes; its size, as 8 bytes in a tray of its own.

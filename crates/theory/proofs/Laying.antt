@@ -13,7 +13,7 @@ use lib.ListN.{length}
 use borrow.Author.Tests.{leb-true, le-leb, ltb-true, lt-ltb, le-ltb, eq-eqb, ne-eqb, eqb-true, eqb-false, not-true, not-false}
 use Rattle.theory.specs.Words.{firstOf, when}
 use Rattle.theory.specs.Strips.{admitted, strip, window, placeOf}
-use Rattle.theory.specs.Plans.{Section, endOf, shades, marks, wordFault, sectionCount, sections, torn, straightFrom, planFault, welded, reach, holdsAt, layingFrom, nthS, layingAt, laidAt, layingOf, distanceOf, lookupFault}
+use Rattle.theory.specs.Plans.{Section, endOf, shades, marks, wordFault, sectionCount, sections, torn, straightFrom, planFault, welded, reach, holdsAt, layingFrom, nthS, layingAt, laidAt, distanceAt, layingOf, distanceOf, lookupFault}
 use Rattle.theory.specs.Theorems.{Laid, Laid-across, Across, Lies, Laid-where, Laid-each, Laid-only, Laid-at}
 use Rattle.theory.proofs.Base.{less, equal, more, cmp, upto, over, split, test, and-l, and-r, and-in, and-false}
 use Rattle.theory.proofs.Reading.{letters-length}
@@ -297,6 +297,14 @@ laid-at s p good laid =
     let ends : p + marks s ≤ shades s ^ marks s =
     ⊎-elim (λ h. omega (arith, h, section-straight s good i (l .listed) .ends)) (λ h. omega (arith, h .2, section-straight s good (suc i) (h .0) .ends)) (l .ends) in
     (omega (arith, l .listed, sections-count s), omega (arith, l .starts), ends)
+
+-- the window at a place that is laid has no fault
+pub laid-window : (s : List ℕ) (p : ℕ) → planFault s ≡ 0 → laidAt s p ≡ true → lookupFault s (window (shades s) (marks s) p) ≡ 0
+laid-window s p good laid =
+    let i = layingAt s p - 1 in
+    let (_, e, _) = laid-at s p good laid in
+    let lies = subst (Lies (marks s) (sections s) i) (sym e) (lies-there s p good (laid-some s p laid)) in
+    subst (λ q. lookupFault s (window (shades s) (marks s) q) ≡ 0) e (in-section s good i (distanceAt s p) lies .0)
 
 pub laid-each : Laid-each
 laid-each s p good =

@@ -297,6 +297,13 @@ module _ {A : Type 0} (key : A → List ℕ) where
       behind : (x y : A) → In x (f a) → In y (gather f (countFrom l (suc a))) → Lt (key x) (key y)
       behind x y i j = elim (gather-in f (countFrom l (suc a)) j) [ gathered b m n ↦ h a b x y (count-in l (suc a) m .0) i n ]
 
+  -- an earlier member has the lower key
+  pub key-index : (xs : List A) (d : A) (i j : ℕ) → Ascending (each key xs) → i < j → j < length xs → below (key (getD xs i d)) (key (getD xs j d)) ≡ true
+  key-index [] d i j p h l = absurd (omega arith)
+  key-index (x ∷ xs) d i zero p h l = absurd (omega arith)
+  key-index (x ∷ xs) d zero (suc j) p h l = p .0 _ (in-each key (getD-in xs j d (omega arith)))
+  key-index (x ∷ xs) d (suc i) (suc j) p h l = key-index xs d i j (p .1) (omega arith) (omega arith)
+
 pub ascend-apart : (us vs : List (List ℕ)) → Ascending (us ++ vs) → (u v : List ℕ) → In u us → In v vs → Lt u v
 ascend-apart [] vs p u v i j = absurd (in-nil i)
 ascend-apart (w ∷ us) vs p u v (here e) j = subst (λ r. Lt r v) (sym e) (below-lt w v (p .0 v (in-append-right us j)))

@@ -14,7 +14,7 @@ use borrow.Author.Tests.{ltb-true, lt-ltb, le-ltb, leb-true, le-leb, lt-leb}
 use Rattle.theory.specs.Words.{pick, keep, marksOk}
 use Rattle.theory.specs.Lists.{In, Ascending, each, gather, countFrom}
 use Rattle.theory.specs.Strips.{admitted}
-use Rattle.theory.specs.Plans.{shades, laidAt}
+use Rattle.theory.specs.Plans.{shades, entrySize, laidAt}
 use Rattle.theory.specs.Substitutions.{Change, change, changed, changesDown, changesUp, changesAt, changesFor, changes, newPlace, misread, keyOf}
 use Rattle.theory.specs.Theorems.{Misread}
 use Rattle.theory.proofs.Base.{test, and-l, and-r, and-in, less, equal, more, cmp, upto, over, split}
@@ -201,7 +201,7 @@ module _ (s w : List ℕ) where
     pub in-misread : (c : Change) → c .mark < length w → c .shade < shades s → c .shade ≢ getD w (c .mark) 0 → laidAt s (newPlace s w c) ≡ true → In c (misread s w)
     in-misread c inside small other laid = in-keep lies (in-changes (shades s) w ok c inside small other) laid
 
-    few : length (misread s w) ≤ length w * (shades s - 1)
+    pub few : length (misread s w) ≤ length w * (shades s - 1)
     few = omega (arith, keep-length lies (changes (shades s) w), changes-many (shades s) w ok)
 
 -- the most changes that a strip has, by one computed test of all that are admitted
@@ -223,6 +223,7 @@ most k n a = elim (split (n * (k - 1)) 385) [ upto h ↦ h | over h ↦ absurd (
         in-gather (λ k. keep (too-many k) (countFrom 61 0)) (in-count 37 0 k (omega arith) (omega arith)) (in-keep (too-many k) (in-count 61 0 n (omega arith) (omega arith)) (and-in a (lt-ltb 385 (n * (k - 1)) h)))
 
 pub misread-laws : Misread
+unfolding entrySize
 misread-laws = record {
   changed-is = λ w v c h. (
     λ e. (ap length (sym e) ∙ changed-length w c, ap (λ u. getD u (c .mark) 0) (sym e) ∙ changed-at w c h, λ j n. ap (λ u. getD u j 0) (sym e) ∙ changed-other w c h j n),
@@ -235,4 +236,5 @@ misread-laws = record {
   ordered = ordered;
   few = few;
   most = most;
+  example = refl;
 }

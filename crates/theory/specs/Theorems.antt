@@ -318,6 +318,11 @@ pub record Misread : Type 0 where
   -- how many there are, at most
   pub few : (s w : List ℕ) → marksOk (shades s) w ≡ true → length (misread s w) ≤ length w * (shades s - 1)
   pub most : (k n : ℕ) → admitted k n ≡ true → n * (k - 1) ≤ 385
+  -- on the strip of 3 shades and windows of 2, laid whole: the window 1 2, with each change the new window's place
+  pub example : let s : List ℕ = 3 ∷ 2 ∷ 0 ∷ 1 ∷ (replicate 15 0 ++ (9 ∷ [])) in
+      let w : List ℕ = 1 ∷ 2 ∷ [] in
+      each (λ c. c .mark ∷ c .shade ∷ newPlace s w c ∷ []) (misread s w)
+      ≡ (0 ∷ 0 ∷ 3 ∷ []) ∷ (0 ∷ 2 ∷ 7 ∷ []) ∷ (1 ∷ 1 ∷ 5 ∷ []) ∷ (1 ∷ 0 ∷ 2 ∷ []) ∷ []
 
 -- The sums of document 004, section 3: Möbius values over the divisors, the rank (Lemma 9) and the number of Lyndon words; the order
 -- of summation does not matter, and no running sum is large.
