@@ -41,18 +41,14 @@ slice-write-v c = omega (arith, ap length (copied (c .before .before)), c .befor
 abbrev begun : tie.After-place-of → tie.Start
 begun c = c .before .before .before .before .before .before .before .before .before .before
 
--- and, with the letter, the window so changed
-with-letter : (c : tie.After-v2) → let a = c .before .before .before .before .before .before .before .before .before .args in
-    set (c .before .before .before .copy .last .1 .0) (a .j) (a .a) ≡ changed (change (a .j) (a .a)) (a .w .now)
-with-letter c = let a = c .before .before .before .before .before .before .before .before .before .args in ap (λ v. set v (a .j) (a .a)) (copied (c .before .before .before))
-
 place-of-requires : tie.Need-place-of-requires
 place-of-requires c κs =
     let f = c .before .before .before .before .before .before .before .before .before in
-    subst (WordOn (f .args .s)) (sym (with-letter c)) (changed-on-strip (f .pre .0 .plan) (f .pre .0 .word) (f .args .j) (f .pre .2))
+    subst (λ v. WordOn (f .args .s) (set v (f .args .j) (f .args .a))) (sym (copied (c .before .before .before))) (changed-on-strip (f .pre .0 .plan) (f .pre .0 .word) (f .args .j) (f .pre .2))
 
+-- and, with the letter, the window so changed
 place-is : (c : tie.After-place-of) → let a = begun c .args in c .place-of .result ≡ placeOf (a .s .k) (a .s .n) (changed (change (a .j) (a .a)) (a .w .now))
-place-is c = let a = begun c .args in c .place-of .ensures ∙ ap (placeOf (a .s .k) (a .s .n)) (with-letter (c .before))
+place-is c = let a = begun c .args in c .place-of .ensures ∙ ap (λ v. placeOf (a .s .k) (a .s .n) (set v (a .j) (a .a))) (copied (c .before .before .before .before))
 
 laying-requires : tie.Need-laying-requires
 laying-requires c κs =
@@ -68,35 +64,27 @@ returns c =
 cast-out : tie.Need-cast-out
 cast-out c = let f = begun (c .before .before .before) in record { fits = omega (arith, f .pre .1, short f) }
 
--- the buffer has room for an entry, also when the first byte stands in it, and the second
+-- the buffer has room for an entry, also when its first bytes stand in it
 abbrev laid-there : tie.Else1 → tie.Start
 laid-there c = begun (c .before .before .before)
-
-room : (c : tie.Else1) → let a = laid-there c .args in (10 ≤ length (a .out .now)) × (10 ≤ length (set (a .out .now) 0 (a .j))) × (10 ≤ length (set (set (a .out .now) 0 (a .j)) 1 (a .a)))
-room c =
-    let a = laid-there c .args in
-    let first = length-set (a .out .now) 0 (a .j) in
-    let second = length-set (set (a .out .now) 0 (a .j)) 1 (a .a) in
-    let free = laid-there c .pre .0 .room in
-    (omega arith, omega arith, omega arith)
 
 slice-write-out : tie.Need-slice-write-out
 slice-write-out c = search needs
 
 slice-write-out-2 : tie.Need-slice-write-out-2
-slice-write-out-2 c = omega (arith, room c .1)
+slice-write-out-2 c = simp length-set (omega (arith, laid-there c .pre .0 .room))
 
 sub-put64 : tie.Need-sub-put64
-sub-put64 c = omega (arith, room c .2)
+sub-put64 c = simp length-set (omega (arith, laid-there c .pre .0 .room))
 
 part-put64-start : tie.Need-part-put64-start
-part-put64-start c = omega (arith, room c .2)
+part-put64-start c = simp length-set (omega (arith, laid-there c .pre .0 .room))
 
 part-put64-end : tie.Need-part-put64-end
 part-put64-end c = search needs
 
 put64-requires : tie.Need-put64-requires
-put64-requires c κs = simp (length-take, length-drop) (omega (arith, room (c .before) .2))
+put64-requires c κs = simp (length-take, length-drop, length-set) (omega (arith, laid-there (c .before) .pre .0 .room))
 
 -- the entry is written
 abbrev entry : tie.After-put64 → List ℕ
@@ -107,13 +95,13 @@ written : (c : tie.After-put64) → let a = laid-there (c .before .before) .args
 written c =
     let laid = c .before .before in
     let a = laid-there laid .args in
-    two-bytes (a .j) (a .a) (putBe 8 (laid .before .before .before .place-of .result)) (a .out .now) (c .put64 .last .1 .0) (omega (arith, room laid .0)) (c .put64 .ensures)
+    two-bytes (a .j) (a .a) (putBe 8 (laid .before .before .before .place-of .result)) (a .out .now) (c .put64 .last .1 .0) (omega (arith, laid-there laid .pre .0 .room)) (c .put64 .ensures)
 
 same-length : tie.Need-same-length
 same-length c =
     let put = c .before .before in
     let laid = put .before .before in
-    ap length (written put) ∙ over-length (entry put) (laid-there laid .args .out .now) (room laid .0)
+    ap length (written put) ∙ over-length (entry put) (laid-there laid .args .out .now) (omega (arith, laid-there laid .pre .0 .room))
 
 returns-2 : tie.Need-returns-2
 returns-2 c =

@@ -16,7 +16,7 @@ add-a : tie.Need-add-a
 add-a c = let f = c .before .before .before .before in record { fits = omega (arith, letter-small (f .pre .0 .word) (f .args .j) (f .pre .1), f .pre .2) }
 
 returns : tie.Need-returns
-returns c = let a = c .before .before .before .before .before .before .args in none-tried (a .out .now) (up-none (a .d) (a .j) (getD (a .w .now) (a .j) 0) (a .s .k) (c .if1 .taken))
+returns c = let a = c .before .before .before .before .before .before .args in none-tried (a .out .now) (up-none (a .d) (a .j) (getD (a .w .now) (a .j) 0) (a .s .k) (omega arith))
 
 cast-put-change : tie.Need-cast-put-change
 cast-put-change c = let f = c .before .before .before .before .before .before in record { fits = omega (arith, letter-small (f .pre .0 .word) (f .args .j) (f .pre .1)) }
