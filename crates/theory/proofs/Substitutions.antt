@@ -189,7 +189,7 @@ module _ (s w : List ℕ) where
   lies c = laidAt s (newPlace s w c)
 
   pub ordered : Ascending (each (keyOf w) (misread s w))
-  ordered = key-keep (keyOf w) lies (changes (shades s) w) (key-changes (shades s) w)
+  ordered = key-keep (keyOf w) _ (changes (shades s) w) (key-changes (shades s) w)
 
   module _ (ok : marksOk (shades s) w ≡ true) where
     pub misread-in : {c : Change} → In c (misread s w) → (c .mark < length w) × (c .shade < shades s) × (c .shade ≢ getD w (c .mark) 0) × (laidAt s (newPlace s w c) ≡ true)
