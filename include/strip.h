@@ -12,7 +12,7 @@
    it: each pointer is valid for its length (a null pointer only with length 0), and no tray overlaps another slice. The calls keep no state
    and may run in several threads at once, each with its own trays.
 
-   For x86-64 Linux only. The Rattle kit rattle-kit-5b (logic 064da1ca440f63e7) builds the library with `rt staticlib strip`; link it with
+   For x86-64 Linux only. The Rattle kit (docs/VERIFICATION.md says which) builds the library with `rt staticlib strip`; link it with
 
        gcc -O2 -Iinclude host.c target/staticlib/libstrip.a -o host
 
