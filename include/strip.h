@@ -1,4 +1,4 @@
-/* Position strips: ranks of Lyndon words, marks and places on a strip, pictures of it, places in a laying plan.
+/* Position strips: ranks of Lyndon words, marks and places on a strip, pictures of it, places in a laying plan, and misreadings there.
 
    A strip of k shades and windows of n marks joins, in dictionary order, all Lyndon words whose length divides n. It has k^n marks, at
    places 0 to k^n - 1, and goes round: after the last comes the first. Every window of n marks is read at exactly one place.
@@ -21,7 +21,8 @@
    some 0.1 us, word_of, mark_at and print_marks some 70 to 110 us, and each mark printed a few ns more; picture_of as print_marks, and 0.1 ms
    more for the largest file. The turn of a word that repeats itself, or has a long run of its smallest mark, takes up to 1.5 us, and its
    place up to 4 us. Shorter windows take less. look_up_smudged looks for 2 or 4 places on that strip, for up to 1,296 with 36 shades, which
-   take some 0.5 ms. */
+   take some 0.5 ms. misreadings_of looks for the place of each change of a mark: 60 on that strip, up to 385 with 36 shades, which take some
+   TODO-TIME. */
 #ifndef STRIP_H
 #define STRIP_H
 #include <stddef.h>
@@ -33,7 +34,7 @@ extern "C" {
 
 /* The major number rises with a change that a host must react to, the minor number with a new call. */
 #define STRIP_VERSION_MAJOR 3
-#define STRIP_VERSION_MINOR 0
+#define STRIP_VERSION_MINOR 1
 
 /* Limits: k from 2, n from 1, and k^n at most 2^60; sections of a plan, and the bytes of its longest record. */
 #define STRIP_MOST_SHADES 36
@@ -47,6 +48,11 @@ extern "C" {
 #define STRIP_MOST_HEIGHT 64
 #define STRIP_PICTURE(width, height) (12 + (height) * ((width) + ((width) + 69) / 70))
 #define STRIP_MOST_PICTURE STRIP_PICTURE(STRIP_MOST_WIDTH, STRIP_MOST_HEIGHT) /* 3,894,924 */
+
+/* Misreadings: bytes of a list's entry, the most entries, n * (k - 1) on the strip (36, 11), and bytes that hold any list. */
+#define STRIP_ENTRY 10
+#define STRIP_MOST_ENTRIES 385
+#define STRIP_MOST_LIST (STRIP_ENTRY * STRIP_MOST_ENTRIES) /* 3,850 */
 
 /* In look_up_smudged alone: the byte for a mark that the head could not read, and how many of these a window may have. */
 #define STRIP_UNREAD 255
@@ -166,6 +172,24 @@ uint8_t look_up(const uint8_t *plan, size_t plan_len, const uint8_t *window, siz
 
    Each unread mark may be any of the k shades, so with two of them k * k windows are tried: at most 1,296. */
 uint8_t look_up_smudged(const uint8_t *plan, size_t plan_len, const uint8_t *window, size_t window_len, uint8_t *tray, size_t tray_len);
+
+/* How near a window that is laid is to another one: every change of one of its marks that gives a window which is laid too, as look_up has it. Each is
+   an entry of 10 bytes: the mark's number from 0 in 1, its new shade in 1, and the place of the new window on the strip in 8. The smallest change in
+   shade, the larger shade less the smaller, comes first, then the earlier mark, then the lower new shade. None is missing or listed twice.
+
+   There are two trays: the number of entries goes into the first, of 8 bytes, the list into the second, which n * (k - 1) * STRIP_ENTRY bytes always
+   hold, and STRIP_MOST_LIST on any strip. If no change gives a laid window the list is empty: the number is 0, and the second tray may have no bytes.
+   6 is given if either is too short; then neither is touched. Refusals: 7, 1, 8, 2, 3, 9, 6, where 9 says that the window itself is not laid.
+
+   Example. With the plan and the window of look_up, 1011:
+
+       uint8_t count[STRIP_NUMBER], list[STRIP_MOST_LIST];
+       misreadings_of(plan, sizeof plan, window, sizeof window, count, sizeof count, list, sizeof list);
+
+   returns 0, leaves 0 0 0 0 0 0 0 2 in `count`, and 1 1, 0 0 0 0 0 0 0 12 and 3 0, 0 0 0 0 0 0 0 8 in the first 20 bytes of `list`: with mark 1 read
+   as 1 it is 1111, at place 12, and with mark 3 read as 0 it is 1010, at place 8. The other two changes give 0011 and 1001, which are not laid. */
+uint8_t misreadings_of(const uint8_t *plan, size_t plan_len, const uint8_t *window, size_t window_len, uint8_t *count, size_t count_len, uint8_t *tray,
+                       size_t tray_len);
 
 #ifdef __cplusplus
 }
