@@ -1,13 +1,13 @@
 /* Reads calls with expected results, as vectors.py prints them, and compares the library: the number given back, the answer, and every
    byte that must stay, with trays one byte short, exact and longer. Of a smudged window several answers may be right: any of them is taken.
-   A picture has a tray for its size too, which is lent one byte short, exact and longer.
+   A picture's size and a list's number of entries go into a tray of their own, which is lent one byte short, exact and longer.
    Exits 1 if anything differs, or a call is never compared. */
 #include "../include/strip.h"
 #include "lent.h"
 
-enum { TURN, RANK, WORD, MARK, PLACE, PRINT, PICTURE, LOOK, SMUDGED, CALLS };
+enum { TURN, RANK, WORD, MARK, PLACE, PRINT, PICTURE, LOOK, SMUDGED, MISREAD, CALLS };
 enum { MOST_BYTES = 1 << 14, MOST_ANSWER = 1 << 22, MOST_TRAY = 64 };
-static const char *const NAMES[CALLS] = {"turn", "rank", "word", "mark", "place", "print", "picture", "look", "smudged"};
+static const char *const NAMES[CALLS] = {"turn", "rank", "word", "mark", "place", "print", "picture", "look", "smudged", "misread"};
 
 struct vector {
     int call;
@@ -19,10 +19,11 @@ struct vector {
 
 /* Numbers that the model takes for granted are those of the header. */
 _Static_assert(STRIP_FINE == 0 && STRIP_TRAY_TOO_SMALL == 6, "the refusal of a tray");
-_Static_assert(STRIP_MOST_PLAN < MOST_BYTES && STRIP_MOST_MARKS < MOST_TRAY && STRIP_LAYING < MOST_TRAY && STRIP_MOST_PICTURE < MOST_ANSWER,
+_Static_assert(STRIP_MOST_PLAN < MOST_BYTES && STRIP_MOST_MARKS < MOST_TRAY && STRIP_LAYING < MOST_TRAY && STRIP_MOST_PICTURE < MOST_ANSWER &&
+                   STRIP_MOST_LIST < MOST_ANSWER,
                "room for plans and answers");
 
-static struct room input_room, plan_room, tray_room, size_room;
+static struct room input_room, plan_room, tray_room, count_room;
 static unsigned long compared[CALLS], failures;
 static struct vector v;
 
@@ -80,15 +81,20 @@ static uint64_t answer_bytes(void) {
     return STRIP_NUMBER;
 }
 
+/* whether an answer may have so many bytes: of a list, whole entries, and no more than the most; of a refusal, none */
+static int may_be_so_long(uint64_t length) {
+    if (v.refusal != STRIP_FINE) return length == 0;
+    return v.call == MISREAD ? length % STRIP_ENTRY == 0 && length <= STRIP_MOST_LIST : length == answer_bytes();
+}
+
 /* the answers that are right, parted by commas, each as long as the header says; none of a refusal */
 static void answers_field(void) {
     const char *text = field();
-    uint64_t length = v.refusal == STRIP_FINE ? answer_bytes() : 0;
     v.answers = v.answer_length = 0;
     for (int more = 1; more; v.answers++) {
         size_t letters = strcmp(text, "-") == 0 ? 0 : strcspn(text, ",");
         v.answer_length = bytes_of(text, letters, v.answer + v.answers * v.answer_length, MOST_ANSWER - v.answers * v.answer_length);
-        if (v.answer_length != length) bad_line("an answer is not as long as the header says");
+        if (!may_be_so_long(v.answer_length)) bad_line("an answer is not as long as the header says");
         more = text[letters] == ',';
         text += letters + 1;
     }
@@ -101,7 +107,7 @@ static void parse(char *line) {
     while (v.call < CALLS && strcmp(name, NAMES[v.call]) != 0) v.call++;
     if (v.call == CALLS) bad_line("no such call");
     v.input_length = v.plan_length = 0;
-    int of_plan = v.call == LOOK || v.call == SMUDGED;
+    int of_plan = v.call == LOOK || v.call == SMUDGED || v.call == MISREAD;
     if (of_plan) {
         v.plan_length = bytes_field(v.plan);
     } else {
@@ -116,7 +122,7 @@ static void parse(char *line) {
     answers_field();
 }
 
-static unsigned call(const struct lent *input, const struct lent *plan, const struct lent *size, const struct lent *tray) {
+static unsigned call(const struct lent *input, const struct lent *plan, const struct lent *count, const struct lent *tray) {
     switch (v.call) {
     case TURN: return turn_of(v.k, v.n, input->bytes, input->length, tray->bytes, tray->length);
     case RANK: return rank_of(v.k, v.n, input->bytes, input->length, tray->bytes, tray->length);
@@ -124,9 +130,11 @@ static unsigned call(const struct lent *input, const struct lent *plan, const st
     case MARK: return mark_at(v.k, v.n, v.number, tray->bytes, tray->length);
     case PLACE: return place_of(v.k, v.n, input->bytes, input->length, tray->bytes, tray->length);
     case PRINT: return print_marks(v.k, v.n, v.number, v.marks, tray->bytes, tray->length);
-    case PICTURE: return picture_of(v.k, v.n, v.number, v.marks, v.height, size->bytes, size->length, tray->bytes, tray->length);
+    case PICTURE: return picture_of(v.k, v.n, v.number, v.marks, v.height, count->bytes, count->length, tray->bytes, tray->length);
     case LOOK: return look_up(plan->bytes, plan->length, input->bytes, input->length, tray->bytes, tray->length);
     case SMUDGED: return look_up_smudged(plan->bytes, plan->length, input->bytes, input->length, tray->bytes, tray->length);
+    case MISREAD:
+        return misreadings_of(plan->bytes, plan->length, input->bytes, input->length, count->bytes, count->length, tray->bytes, tray->length);
     }
     exit(2);
 }
@@ -138,43 +146,48 @@ static int holds_one(const struct lent *tray) {
     return 0;
 }
 
-/* whether the tray of a picture's size holds it, if there is one, and no other byte is touched */
-static int holds_size(const struct lent *size, unsigned refusal) {
-    uint8_t number[STRIP_NUMBER];
-    for (int i = 0; i < STRIP_NUMBER; i++) number[i] = (uint8_t)((uint64_t)v.answer_length >> 8 * (STRIP_NUMBER - 1 - i));
-    return holds(size, number, v.call == PICTURE && refusal == 0 ? STRIP_NUMBER : 0);
+static int has_count(void) {
+    return v.call == PICTURE || v.call == MISREAD;
 }
 
-static void compare_sized(size_t tray_length, size_t size_length, unsigned long line) {
+/* whether the tray for a picture's size or a list's number of entries holds it, if there is one, and no other byte is touched */
+static int holds_count(const struct lent *tray, unsigned refusal) {
+    uint8_t number[STRIP_NUMBER];
+    uint64_t count = v.call == MISREAD ? v.answer_length / STRIP_ENTRY : v.answer_length;
+    for (int i = 0; i < STRIP_NUMBER; i++) number[i] = (uint8_t)(count >> 8 * (STRIP_NUMBER - 1 - i));
+    return holds(tray, number, has_count() && refusal == 0 ? STRIP_NUMBER : 0);
+}
+
+static void compare_counted(size_t tray_length, size_t count_length, unsigned long line) {
     int kind = (int)((compared[v.call] + line) % KINDS);
     struct lent input = lend_copy(input_room, v.input, v.input_length, kind);
     struct lent plan = lend_copy(plan_room, v.plan, v.plan_length, kind);
     struct lent tray = lend(tray_room, tray_length, kind);
-    struct lent size = lend(size_room, size_length, kind);
-    int small = tray_length < v.answer_length || size_length < STRIP_NUMBER;
+    struct lent count = lend(count_room, count_length, kind);
+    int small = tray_length < v.answer_length || count_length < STRIP_NUMBER;
     unsigned refusal = v.refusal == 0 && small ? STRIP_TRAY_TOO_SMALL : v.refusal;
-    unsigned given = call(&input, &plan, &size, &tray);
+    unsigned given = call(&input, &plan, &count, &tray);
     int right = given == refusal && (refusal == 0 ? holds_one(&tray) : holds(&tray, v.answer, 0)) && holds(&input, v.input, v.input_length) &&
-                holds(&plan, v.plan, v.plan_length) && holds_size(&size, refusal);
+                holds(&plan, v.plan, v.plan_length) && holds_count(&count, refusal);
     if (!right && failures++ < 20)
-        printf("line %lu (%s), tray of %zu: number %u, expected %u%s\n", line, NAMES[v.call], tray_length, given, refusal,
+        printf("line %lu (%s), tray of %zu, for a count %zu: number %u, expected %u%s\n", line, NAMES[v.call], tray_length, count_length, given, refusal,
                given == refusal ? ", but other bytes" : "");
     compared[v.call]++;
     give_back(&input);
     give_back(&plan);
     give_back(&tray);
-    give_back(&size);
+    give_back(&count);
 }
 
 static void compare(size_t tray_length, unsigned long line) {
-    compare_sized(tray_length, STRIP_NUMBER, line);
+    compare_counted(tray_length, STRIP_NUMBER, line);
 }
 
 /* refused ones with trays of any length, so that 6 comes after all others */
 static void compare_all(unsigned long line) {
     static const size_t lengths[] = {0, STRIP_NUMBER - 1, MOST_TRAY};
     if (v.refusal != 0) {
-        for (size_t i = 0; i < 3; i++) compare_sized(lengths[i], lengths[(i + line) % 3], line);
+        for (size_t i = 0; i < 3; i++) compare_counted(lengths[i], lengths[(i + line) % 3], line);
         return;
     }
     if (v.answer_length != 0) compare(v.answer_length - 1, line);
@@ -185,10 +198,11 @@ static void compare_all(unsigned long line) {
         compare(v.answer_length + 1, line);
     }
     compare(v.answer_length + 3, line);
-    if (v.call != PICTURE) return;
-    compare_sized(v.answer_length, STRIP_NUMBER - 1, line);
-    compare_sized(v.answer_length - 1, 0, line);
-    compare_sized(v.answer_length, STRIP_NUMBER + 5, line);
+    if (v.call == MISREAD && v.answer_length != 0) compare(v.answer_length - STRIP_ENTRY, line); /* as long as the list without an entry */
+    if (!has_count()) return;
+    compare_counted(v.answer_length, STRIP_NUMBER - 1, line);
+    compare_counted(v.answer_length, STRIP_NUMBER + 5, line);
+    if (v.answer_length != 0) compare_counted(v.answer_length - 1, 0, line);
 }
 
 int main(void) {
@@ -198,7 +212,7 @@ int main(void) {
     input_room = make_room(MOST_BYTES);
     plan_room = make_room(MOST_BYTES);
     tray_room = make_room(MOST_ANSWER + 3);
-    size_room = make_room(MOST_TRAY);
+    count_room = make_room(MOST_TRAY);
     while (getline(&line, &room, stdin) > 0) {
         lines++;
         parse(line);

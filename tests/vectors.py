@@ -6,6 +6,7 @@
     word  K N INDEX       REFUSAL ANSWER        look  PLAN WINDOW     REFUSAL ANSWER
     place K N WINDOW      REFUSAL ANSWER        picture K N PLACE WIDTH HEIGHT REFUSAL ANSWER
     smudged PLAN WINDOW   REFUSAL ANSWER,ANSWER,..   any of the answers is right
+    misread PLAN WINDOW   REFUSAL ANSWER             the list, which may be empty
 
 Bytes are written in hexadecimal, no bytes as "-". An optional argument is the most places of a small strip, of which all is printed.
 """
@@ -68,6 +69,11 @@ def smudged(plan, window):
     print("smudged", text(plan), text(window), fault, ",".join(map(text, answers)) or "-")
 
 
+def misread(plan, window):
+    fault, answer = model.misreadings_of(plan, window)
+    print("misread", text(plan), text(window), fault, text(answer))
+
+
 def on_word(k, n, marks_):
     turn(k, n, marks_)
     rank(k, n, marks_)
@@ -116,6 +122,15 @@ def smudged_of_the_rules():
         smudged(plan, window)
     smudged(plan, (UNREAD, 2, UNREAD, UNREAD))
     smudged(plan, (UNREAD, 2, 0, 0))
+
+
+def misread_of_the_rules():
+    """Every window of the request's two plans, and of others on the same strip: a window alone, over a joint, and at one that is not welded."""
+    for window in model.words(3, 2):
+        misread(plan_bytes(3, 2, [(0, 9)]), window)
+    for sections, rails in (([(0, 6), (8, 8)], None), ([(12, 4)], None), ([(0, 8), (8, 8)], None), ([(0, 8), (8, 8)], (7, 7)), ([(0, 8), (8, 8)], (7, 8))):
+        for window in list(model.words(2, 4)) + [(1, UNREAD, 1, 1)]:
+            misread(plan_bytes(2, 4, sections, rails), window)
 
 
 def cases_of_document_003():
@@ -277,15 +292,15 @@ def torn(plan):
 
 def plan_refusals():
     good, crooked = [(0, 6), (8, 8)], [(0, 6), (5, 8)]
-    windows = [bytes(w) for w in ((0, 0, 0, 0), (1, 0, 0, 0), (0, 0, 0), (0, 0, 0, 0, 0), (0, 0, 0, 2), (0, 0, 255), (2,) * 5, ())]
+    windows = [bytes(w) for w in ((0, 0, 0, 0), (1, 0, 0, 0), (0, 0, 0), (0, 0, 0, 0, 0), (0, 0, 0, 2), (0, 255, 0, 0), (0, 0, 255), (2,) * 5, ())]
     smudged_ones = [bytes(w) for length in (3, 4, 5) for count in (0, 2, 3) for bad in ((), (2,), (254,))
                     for w in [(UNREAD,) * count + bad + (0,) * (length - count - len(bad))] if len(w) == length]
     for k, n in ((2, 4), (1, 4), (2, 0), (2, 61), (0, 0), (255, 255), (37, 1)):
         for plan in [plan_bytes(k, n, sections, rails) for sections in (good, crooked, []) for rails in (None, [3] * len(sections))]:
             for window in windows:
-                look(plan, window)
-                for broken in torn(plan):
-                    look(broken, window)
+                for each in [plan] + list(torn(plan)):
+                    look(each, window)
+                    misread(each, window)
             for window in smudged_ones:
                 smudged(plan, window)
                 for broken in torn(plan):
@@ -297,6 +312,7 @@ def plan_refusals():
     for sections, rails in product(bends, (None, (0, 0, 0), (1, 65535, 1))):
         for window in windows:
             look(plan_bytes(2, 4, sections, rails and rails[:len(sections)]), window)
+            misread(plan_bytes(2, 4, sections, rails and rails[:len(sections)]), window)
 
 
 def totals():
@@ -311,6 +327,7 @@ def totals():
             for at in (0, 1, n * m - n, n * m - 1):
                 look(plan, strip_of(k, n).marks(max(0, at), n))
             smudged(plan, smudge(strip_of(k, n).marks(0, n), 1, random.Random(size)))
+            misread(plan, strip_of(k, n).marks(0, n))
 
 
 # Plans with lookups
@@ -376,6 +393,18 @@ def small_smudged(chance, many):
                 smudged(plan, window)
 
 
+def small_misread(chance, many):
+    """Every window of the strips with up to 256 places, laid or not, in plans without sections, with one, with two that touch, and in such as come."""
+    for k, n in small_strips(256):
+        places = k**n
+        half = max(n, places // 2)
+        plans = [either(k, n, sections, chance) for sections in ([], [(0, places)])] + both(k, n, [(0, half), (half, places - half)], chance)
+        for _ in range(many):
+            plans += both(k, n, random_sections(places, n, chance.randint(1, 6), chance), chance)
+        for plan, window in product(plans, model.words(k, n)):
+            misread(plan, window)
+
+
 def two_sections(n, places):
     for first, second in combinations(((start, length) for start in range(places) for length in range(n, places - start + 1)), 2):
         if sum(first) <= second[0]:
@@ -392,8 +421,8 @@ def tiles(n, start, end, most):
 
 
 def joints(chance, most):
-    """Every plan of two sections, and every one whose sections, up to six, meet from the strip's first place to its last; all windows, and one smudged.
-    Where n is 1 no window crosses a joint, so few shades are enough."""
+    """Every plan of two sections, and every one whose sections, up to six, meet from the strip's first place to its last; all windows, one smudged, and
+    the misreadings of one. Where n is 1 no window crosses a joint, so few shades are enough."""
     for k, n in small_strips(most):
         strip, places = strip_of(k, n), k**n
         if n == 1 and k > 6:
@@ -403,6 +432,7 @@ def joints(chance, most):
                 for at in range(places):
                     look(plan, strip.marks(at, n))
                 smudged(plan, smudge(strip.marks(chance.randrange(places), n), 1, chance))
+                misread(plan, strip.marks(chance.randrange(places), n))
 
 
 def large_joints(chance):
@@ -439,6 +469,45 @@ def large_smudged(chance, many):
                     offset, length = chance.choice(sections)
                     at = chance.choice((offset, offset + length - n, offset + length - n + 1, offset + length - 1))
                     smudged(plan, smudge(strip.marks(at % strip.places, n), count, chance))
+
+
+def large_misread(chance, many):
+    """Windows of one section and of 500, some of which touch the next or are welded in pairs: at their starts and ends, over these, and anywhere."""
+    for k, n in ((2, 60), (4, 30), (36, 11)):
+        strip = strip_of(k, n)
+        room = strip.places // 500
+        pairs = [(i * room, room - i % 2 * chance.randint(1, room // 8)) for i in range(500)]
+        plans = [plan_bytes(k, n, pairs), plan_bytes(k, n, pairs, [i // 2 for i in range(500)])]
+        for plan in plans + [either(k, n, spread(strip.places, n, m, chance), chance) for m in (1, 500)]:
+            for i in range(many):
+                offset, length = chance.choice(model.sections_of(plan))
+                at = (offset, offset + length - n, offset + length - n + 1, offset + chance.randrange(length))[i % 4]
+                misread(plan, strip.marks(at % strip.places, n))
+    whole = plan_bytes(36, 11, [(0, 36**11)])
+    assert len(model.misreadings_of(whole, range(20, 31))[1]) == 3850  # no list is longer
+    misread(whole, range(20, 31))
+
+
+def aimed_misread(chance, many):
+    """Sections as short as may be, at a window and at some of its changes or a place beside them: on large strips too, lists of no entry, of one, of few."""
+    for k, n in LARGE:
+        strip = strip_of(k, n)
+        for count in [0, 1, 1] + [chance.randint(2, 40) for _ in range(many)]:
+            window = tuple(chance.choice((plain, runs))(k, n, chance))
+            starts = [strip.place(window)]
+            for _ in range(count):
+                mark, shade = chance.randrange(n), chance.randrange(k)
+                starts.append(strip.place(window[:mark] + (shade,) + window[mark + 1:]) + chance.choice((0, 0, 0, 1, -1)))
+            misread(either(k, n, apart(starts, n, strip.places), chance), window)
+
+
+def apart(starts, n, places):
+    """Sections of n marks at those of the places that reach into none before them, nor over the strip's end."""
+    kept = []
+    for start in starts:
+        if 0 <= start <= places - n and all(abs(start - other) >= n for other in kept):
+            kept.append(start)
+    return [(start, n) for start in sorted(kept)]
 
 
 def spread(places, n, m, chance):
@@ -501,6 +570,7 @@ def main():
     cases_of_the_rules()
     plans_of_the_rules()
     smudged_of_the_rules()
+    misread_of_the_rules()
     cases_of_document_003()
     cases_of_document_004()
     refusals()
@@ -515,6 +585,9 @@ def main():
     large_plans(chance, 6)
     small_smudged(chance, 2)
     large_smudged(chance, 6)
+    small_misread(chance, 2)
+    large_misread(chance, 12)
+    aimed_misread(chance, 12)
     few_sections(chance)
     broken_among_500(chance)
     joints(chance, 16)
