@@ -6,13 +6,14 @@
 #include "lent.h"
 #include <limits.h>
 
-enum { TURN, RANK, WORD, MARK, PLACE, PRINT, PICTURE, LOOK, SMUDGED, CALLS };
+enum { TURN, RANK, WORD, MARK, PLACE, PRINT, PICTURE, LOOK, SMUDGED, MISREAD, CALLS };
 enum { SHADES = 36, LONGEST = 60, MOST_SECTIONS = 500, NUMBER = 8, LAYING = 12, UNREAD = 255, MOST_UNREAD = 2 };
-enum { WIDEST = 60000, HIGHEST = 64, LINE = 70 };
+enum { WIDEST = 60000, HIGHEST = 64, LINE = 70, CHANGE = 10 }; /* CHANGE: bytes of an entry in a list of misreadings */
 enum { HEAD = 4, PAIR = 16, RAILED = 18 }; /* bytes of a plan before the entries, of an entry in an old record, and in a new one */
-enum { MOST_WORD = 96, MOST_TRAY = 1 << 18, MOST_PLAN = 9100, MOST_SIZE = 16 };
+enum { MOST_WORD = 96, MOST_TRAY = 1 << 18, MOST_PLAN = 9100, MOST_COUNT = 16 };
 #define MOST_PLACES ((uint64_t)1 << 60)
-static const char *const NAMES[CALLS] = {"turn_of", "rank_of", "word_of", "mark_at", "place_of", "print_marks", "picture_of", "look_up", "look_up_smudged"};
+static const char *const NAMES[CALLS] = {"turn_of",    "rank_of", "word_of",         "mark_at",       "place_of", "print_marks",
+                                         "picture_of", "look_up", "look_up_smudged", "misreadings_of"};
 
 /* The order of the refusals. Those that apply are a mask with a bit for each number; what is counted by number has room for every bit. */
 #define IN_ORDER(X) X(7) X(1) X(12) X(8) X(10) X(2) X(11) X(3) X(4) X(13) X(5) X(9) X(6)
@@ -27,6 +28,7 @@ _Static_assert(STRIP_MOST_SHADES == SHADES && STRIP_MOST_MARKS == LONGEST && STR
 _Static_assert(STRIP_MOST_SECTIONS == MOST_SECTIONS && STRIP_MOST_PLAN == HEAD + RAILED * MOST_SECTIONS, "limits of a plan");
 _Static_assert(STRIP_NUMBER == NUMBER && STRIP_LAYING == LAYING, "bytes of an answer");
 _Static_assert(STRIP_MOST_WIDTH == WIDEST && STRIP_MOST_HEIGHT == HIGHEST && STRIP_MOST_PICTURE == 3894924, "limits of a picture");
+_Static_assert(STRIP_ENTRY == CHANGE && STRIP_MOST_LIST == CHANGE * 11 * (SHADES - 1), "bytes of a list, and the longest, on (36, 11)");
 _Static_assert(STRIP_UNREAD == UNREAD && STRIP_MOST_UNREAD == MOST_UNREAD, "marks that were not read");
 _Static_assert(MOST_PLAN >= HEAD + RAILED * (MOST_SECTIONS + 1) + RAILED, "a plan of one section too many, and a longer one, have room");
 
@@ -34,17 +36,18 @@ struct ask {
     int call, kind;
     uint64_t k, n, number, marks, height; /* the marks of a picture are its width */
     const uint8_t *input, *plan;
-    size_t input_length, plan_length, tray_length, size_length; /* the last is that of the tray for a picture's size */
+    size_t input_length, plan_length, tray_length;
+    size_t count_length; /* of the tray for a picture's size or a list's number of entries */
 };
 
-static struct room input_room, plan_room, tray_room, size_room;
+static struct room input_room, plan_room, tray_room, count_room;
 static unsigned long refused[BITS], failures, round_trips[CALLS];
 
 static void fail(const struct ask *a, const char *what, unsigned given, unsigned wanted) {
     if (failures++ >= 20) return;
-    printf("%s: %s; k %llu, n %llu, number %llu, marks %llu, height %llu, input of %zu, plan of %zu, tray of %zu, for the size %zu; given %u, expected %u; input",
+    printf("%s: %s; k %llu, n %llu, number %llu, marks %llu, height %llu, input of %zu, plan of %zu, tray of %zu, for a count %zu; given %u, expected %u; input",
            NAMES[a->call], what, (unsigned long long)a->k, (unsigned long long)a->n, (unsigned long long)a->number, (unsigned long long)a->marks,
-           (unsigned long long)a->height, a->input_length, a->plan_length, a->tray_length, a->size_length, given, wanted);
+           (unsigned long long)a->height, a->input_length, a->plan_length, a->tray_length, a->count_length, given, wanted);
     for (size_t i = 0; i < a->input_length; i++) printf(" %u", a->input[i]);
     printf("; plan");
     for (size_t i = 0; i < a->plan_length && i < 100; i++) printf(" %02x", a->plan[i]);
@@ -220,8 +223,40 @@ static unsigned smudged_faults(const struct ask *a) {
     return some_laid(a, window, 0) ? 0 : 1u << 9;
 }
 
+/* the entry of a list for the window with a mark changed to a shade; 0 if that is the shade it has, or the new window is not laid */
+static int misread(const struct ask *a, uint64_t mark, uint64_t shade, uint8_t *entry) {
+    uint8_t window[LONGEST], answer[LAYING];
+    if (shade == a->input[mark]) return 0;
+    memcpy(window, a->input, a->input_length);
+    window[mark] = (uint8_t)shade;
+    uint64_t place = place_by_library(a->plan[0], a->plan[1], window);
+    put_number(entry, mark, 1);
+    put_number(entry + 1, shade, 1);
+    put_number(entry + 2, place, 8);
+    return laid(a, place, answer);
+}
+
+/* bytes of a list: every mark is tried with every shade; none if the window is refused */
+static size_t list_length(const struct ask *a) {
+    uint8_t entry[CHANGE];
+    size_t entries = 0;
+    if (look_faults(a) != 0) return 0;
+    for (uint64_t mark = 0; mark < a->plan[1]; mark++)
+        for (uint64_t shade = 0; shade < a->plan[0]; shade++) entries += (size_t)misread(a, mark, shade, entry);
+    return CHANGE * entries;
+}
+
 static int takes_a_word(int call) {
     return call == TURN || call == RANK || call == PLACE;
+}
+
+static int takes_a_plan(int call) {
+    return call == LOOK || call == SMUDGED || call == MISREAD;
+}
+
+/* whether there is a tray for a count beside the answer's */
+static int has_count(int call) {
+    return call == PICTURE || call == MISREAD;
 }
 
 static int is_drawable(const struct ask *a) {
@@ -241,15 +276,17 @@ static size_t picture_length(const struct ask *a) {
 
 static size_t answer_length(const struct ask *a) {
     if (a->call == PICTURE) return picture_length(a);
+    if (a->call == MISREAD) return list_length(a);
     size_t marks = a->marks > SIZE_MAX ? SIZE_MAX : (size_t)a->marks;
     return a->call == WORD ? (size_t)a->n : a->call == PRINT ? marks : a->call == LOOK || a->call == SMUDGED ? LAYING : NUMBER;
 }
 
-/* the refusals that apply, 1 << number each; of a place or an index only over an admitted strip, of a tray only if nothing else applies */
-static unsigned faults_of(const struct ask *a) {
+/* the refusals that apply, 1 << number each; of a place or an index only over an admitted strip, of a tray, which is to hold so many bytes, only if
+   nothing else applies */
+static unsigned faults_of(const struct ask *a, size_t length) {
     uint64_t places;
     unsigned faults = 0;
-    if (a->call == LOOK) {
+    if (a->call == LOOK || a->call == MISREAD) {
         faults = look_faults(a);
     } else if (a->call == SMUDGED) {
         faults = smudged_faults(a);
@@ -262,8 +299,7 @@ static unsigned faults_of(const struct ask *a) {
         if (a->call == PICTURE && !is_drawable(a)) faults |= 1u << 13;
         if (good && a->call == WORD && (a->number == 0 || a->number > lyndon_count(a->k, a->n))) faults |= 1u << 5;
     }
-    if (faults == 0 && a->tray_length < answer_length(a)) faults |= 1u << 6;
-    if (faults == 0 && a->call == PICTURE && a->size_length < NUMBER) faults |= 1u << 6;
+    if (faults == 0 && (a->tray_length < length || (has_count(a->call) && a->count_length < NUMBER))) faults |= 1u << 6;
     return faults;
 }
 
@@ -356,7 +392,21 @@ static int sound_smudged(const struct ask *a, const uint8_t *answer) {
     return 1;
 }
 
-static int sound(const struct ask *a, const uint8_t *answer) {
+/* each entry is right, and behind the one before by its change in shade, its mark and its new shade; as the count is right too, none is missing */
+static int sound_list(const struct ask *a, const uint8_t *list, size_t length) {
+    uint8_t right[CHANGE];
+    uint64_t before = 0;
+    for (const uint8_t *entry = list; entry < list + length; entry += CHANGE) {
+        uint64_t mark = entry[0], shade = entry[1];
+        if (mark >= a->plan[1] || !misread(a, mark, shade, right) || memcmp(entry, right, CHANGE) != 0) return 0;
+        uint64_t apart = shade > a->input[mark] ? shade - a->input[mark] : a->input[mark] - shade, order = apart << 16 | mark << 8 | shade;
+        if (order <= before) return 0;
+        before = order;
+    }
+    return 1;
+}
+
+static int sound(const struct ask *a, const uint8_t *answer, size_t length) {
     round_trips[a->call]++;
     switch (a->call) {
     case TURN: return sound_turn(a, number_in(answer, 8));
@@ -367,6 +417,7 @@ static int sound(const struct ask *a, const uint8_t *answer) {
     case PRINT: return sound_print(a, answer);
     case PICTURE: return sound_picture(a, answer);
     case SMUDGED: return sound_smudged(a, answer);
+    case MISREAD: return sound_list(a, answer, length);
     }
     uint8_t right[LAYING];
     return laid(a, place_by_library(a->plan[0], a->plan[1], a->input), right) && memcmp(answer, right, LAYING) == 0;
@@ -374,7 +425,7 @@ static int sound(const struct ask *a, const uint8_t *answer) {
 
 /* One call */
 
-static unsigned call(const struct ask *a, const uint8_t *input, const uint8_t *plan, const struct lent *size, const struct lent *tray) {
+static unsigned call(const struct ask *a, const uint8_t *input, const uint8_t *plan, const struct lent *count, const struct lent *tray) {
     switch (a->call) {
     case TURN: return turn_of(a->k, a->n, input, a->input_length, tray->bytes, tray->length);
     case RANK: return rank_of(a->k, a->n, input, a->input_length, tray->bytes, tray->length);
@@ -382,46 +433,48 @@ static unsigned call(const struct ask *a, const uint8_t *input, const uint8_t *p
     case MARK: return mark_at(a->k, a->n, a->number, tray->bytes, tray->length);
     case PLACE: return place_of(a->k, a->n, input, a->input_length, tray->bytes, tray->length);
     case PRINT: return print_marks(a->k, a->n, a->number, a->marks, tray->bytes, tray->length);
-    case PICTURE: return picture_of(a->k, a->n, a->number, a->marks, a->height, size->bytes, size->length, tray->bytes, tray->length);
+    case PICTURE: return picture_of(a->k, a->n, a->number, a->marks, a->height, count->bytes, count->length, tray->bytes, tray->length);
     case SMUDGED: return look_up_smudged(plan, a->plan_length, input, a->input_length, tray->bytes, tray->length);
+    case MISREAD: return misreadings_of(plan, a->plan_length, input, a->input_length, count->bytes, count->length, tray->bytes, tray->length);
     }
     return look_up(plan, a->plan_length, input, a->input_length, tray->bytes, tray->length);
 }
 
 static void try_call(const struct ask *a) {
     static uint8_t answer[MOST_TRAY];
-    unsigned wanted = first_of(faults_of(a));
+    size_t needed = answer_length(a);
+    unsigned wanted = first_of(faults_of(a, needed));
     struct lent input = lend_copy(input_room, a->input, a->input_length, a->kind);
     struct lent plan = lend_copy(plan_room, a->plan, a->plan_length, a->kind);
     struct lent tray = lend(tray_room, a->tray_length, a->kind);
-    struct lent size = lend(size_room, a->size_length, a->kind);
-    unsigned given = call(a, input.bytes, plan.bytes, &size, &tray);
-    size_t length = wanted == 0 && given == 0 ? answer_length(a) : 0;
+    struct lent count = lend(count_room, a->count_length, a->kind);
+    unsigned given = call(a, input.bytes, plan.bytes, &count, &tray);
+    size_t length = wanted == 0 && given == 0 ? needed : 0;
     uint8_t told[NUMBER];
-    put_number(told, length, NUMBER);
+    put_number(told, a->call == MISREAD ? length / CHANGE : length, NUMBER);
     if (length != 0) memcpy(answer, tray.bytes, length);
     if (given != wanted) fail(a, "number", given, wanted);
     else if (!holds(&tray, answer, length)) fail(a, "a byte that must stay", given, wanted);
-    else if (!holds(&size, told, a->call == PICTURE && given == 0 ? NUMBER : 0)) fail(a, "the size", given, wanted);
+    else if (!holds(&count, told, has_count(a->call) && given == 0 ? NUMBER : 0)) fail(a, "the count", given, wanted);
     else if (!holds(&input, a->input, a->input_length) || !holds(&plan, a->plan, a->plan_length)) fail(a, "an input", given, wanted);
-    else if (given == 0 && !sound(a, answer)) fail(a, "answer", given, wanted);
+    else if (given == 0 && !sound(a, answer, length)) fail(a, "answer", given, wanted);
     refused[wanted]++;
     give_back(&input);
     give_back(&plan);
     give_back(&tray);
-    give_back(&size);
+    give_back(&count);
 }
 
-/* with trays of no bytes, one too few, exact, and more; in every kind of memory; each with every length of the tray for a size */
-static const size_t SIZE_LENGTHS[4] = {NUMBER, NUMBER - 1, NUMBER + 3, 0};
+/* with trays of no bytes, one too few, exact, and more; in every kind of memory; each with every length of the tray for a count */
+static const size_t COUNT_LENGTHS[4] = {NUMBER, NUMBER - 1, NUMBER + 3, 0};
 
 static void try_trays(struct ask a) {
-    size_t exact = answer_length(&a) <= 64 ? answer_length(&a) : 64;
+    size_t needed = answer_length(&a), exact = needed <= 64 ? needed : 64;
     size_t lengths[] = {0, exact == 0 ? 0 : exact - 1, exact, exact + 3, 80};
     for (size_t i = 0; i < sizeof lengths / sizeof *lengths; i++)
         for (a.kind = 0; a.kind < KINDS; a.kind++) {
             a.tray_length = lengths[i];
-            a.size_length = SIZE_LENGTHS[(i + (size_t)a.kind) % 4];
+            a.count_length = COUNT_LENGTHS[(i + (size_t)a.kind) % 4];
             try_call(&a);
         }
 }
@@ -503,7 +556,8 @@ static size_t tear(uint8_t *plan, size_t length, size_t entry, int how) {
     return length;
 }
 
-/* windows with their length first: so many for look_up, the others with marks that were not read; torn records are tried with a call's own */
+/* windows with their length first: so many for look_up, the others with marks that were not read; torn records are tried with a call's own. Misreadings
+   are asked of look_up's and one more, of torn records with some of these */
 enum { PLAIN = 9 };
 static const uint8_t WINDOWS[][6] = {{4, 0, 0, 0, 0}, {4, 1, 1, 0, 0}, {4, 1, 1, 1, 1}, {3}, {5}, {0}, {4, 0, 0, 0, 2}, {3, 255}, {5, 2, 2},
                                      {4, 255, 0, 0, 255}, {4, 1, 255, 1, 255}, {4, 1, 0, 0, 255}, {4, 255, 2, 0, 0}, {4, 254, 255, 0, 0},
@@ -522,6 +576,8 @@ static void plan_sets(const uint8_t *strip, const uint64_t *sections, size_t ent
             if (how == 0 || w < PLAIN) try_trays(a);
             a.call = SMUDGED;
             if (how == 0 || w >= PLAIN) try_trays(a);
+            a.call = MISREAD;
+            if (w <= PLAIN && (how == 0 || (w + (size_t)how) % 4 == 0)) try_trays(a);
         }
 }
 
@@ -548,7 +604,7 @@ static size_t spread(uint64_t k, uint64_t n, uint64_t m, uint8_t *plan, size_t e
     return HEAD + entry * (size_t)m;
 }
 
-/* the window at a place, with the mark in its middle unread if the call takes that */
+/* the window at a place, with the mark in its middle unread if the call takes that; the trays are just as long as the answer */
 static void look_at(struct ask *a, uint64_t place) {
     static uint8_t window[LONGEST];
     uint64_t k = a->plan[0], n = a->plan[1], places;
@@ -558,6 +614,8 @@ static void look_at(struct ask *a, uint64_t place) {
     a->input = window;
     a->input_length = (size_t)n;
     a->kind = (a->kind + 1) % KINDS;
+    a->tray_length = answer_length(a);
+    a->count_length = NUMBER;
     try_call(a);
 }
 
@@ -604,12 +662,14 @@ static void all_sections(void) {
     for (size_t s = 0; s < sizeof SPREAD_STRIPS / sizeof *SPREAD_STRIPS; s++)
         for (size_t m = 0; m < sizeof COUNTS / sizeof *COUNTS; m++)
             for (size_t entry = PAIR; entry <= RAILED; entry += RAILED - PAIR) {
-                struct ask a = {.call = LOOK, .plan = plan, .tray_length = LAYING};
+                struct ask a = {.call = LOOK, .plan = plan};
                 a.plan_length = spread(SPREAD_STRIPS[s][0], SPREAD_STRIPS[s][1], COUNTS[m], plan, entry);
                 each_section(&a, 1);
                 each_pair(&a, plan);
                 a.call = SMUDGED;
                 each_section(&a, 7); /* slow, so only some, with gaps of every kind */
+                a.call = MISREAD;
+                each_section(&a, 125); /* slower still: one for each kind of gap */
             }
 }
 
@@ -618,9 +678,12 @@ static void all_sections(void) {
 
 enum { SMALL = 16, MOST_TILES = 6 };
 
+/* a list asks for the place of each change, so lists only in some of the plans */
 static void look_everywhere(struct ask *a, uint64_t places) {
+    static unsigned long plans;
+    int last = plans++ % 5 == 0 ? MISREAD : SMUDGED;
     for (uint64_t place = 0; place < places; place++)
-        for (a->call = LOOK; a->call <= SMUDGED; a->call++) look_at(a, place);
+        for (a->call = LOOK; a->call <= last; a->call++) look_at(a, place);
 }
 
 /* looks, then lays one more section from a place on; if sections are to meet, just there, and it looks when they reach the last place */
@@ -640,7 +703,7 @@ static void lay_on(struct ask *a, uint8_t *plan, size_t entry, uint64_t from, ui
 
 static void all_joints(void) {
     static uint8_t plan[MOST_PLAN];
-    struct ask a = {.plan = plan, .tray_length = LAYING};
+    struct ask a = {.plan = plan};
     uint64_t places;
     for (uint64_t n = 1; n <= LONGEST; n++)
         for (uint64_t k = 2; k <= SHADES && admitted(k, n, &places) && places <= SMALL; k++) {
@@ -752,6 +815,14 @@ static size_t draw_plan(uint64_t k, uint64_t n, uint8_t *plan) {
     return length;
 }
 
+/* a good plan with few sections that have most of the strip, so that most changes of a mark give a laid window; of a strip that is too short, or none,
+   any plan */
+static size_t draw_wide_plan(uint64_t k, uint64_t n, uint8_t *plan) {
+    uint64_t places, m = 1 + below(4);
+    if (!admitted(k, n, &places) || places / m < 2 * n + 5) return draw_plan(k % 256, n % 256, plan);
+    return spread(k, n, m, plan, below(2) ? PAIR : RAILED);
+}
+
 /* a window that is often one of the plan: at a section's start, its end or across it */
 static size_t draw_window(const uint8_t *plan, size_t length, uint8_t *window) {
     uint64_t places, n = length >= HEAD ? plan[1] : 3, k = length >= HEAD ? plan[0] : 3;
@@ -781,7 +852,6 @@ static void draw_picture(struct ask *a) {
     a->height = 1 + below(below(8) == 0 ? HIGHEST + 2 : 4);
     if (below(16) == 0) a->marks = draw_any();
     if (below(16) == 0) a->height = draw_any();
-    a->size_length = below(8) == 0 ? below(MOST_SIZE) : NUMBER;
 }
 
 static void draw_call(void) {
@@ -795,13 +865,14 @@ static void draw_call(void) {
     if (a.call == WORD) a.number = draw_number(admitted(a.k, a.n, &places) ? lyndon_count(a.k, a.n) : 100);
     if (a.call == MARK || a.call == PRINT) a.number = draw_number(places);
     if (a.call == PRINT) a.marks = below(8) == 0 ? draw_any() : below(below(8) == 0 ? 2000 : 100);
-    if (a.call == LOOK || a.call == SMUDGED) {
-        a.plan_length = draw_plan(a.k % 256, a.n % 256, plan);
+    if (takes_a_plan(a.call)) {
+        a.plan_length = a.call == MISREAD && below(2) ? draw_wide_plan(a.k, a.n, plan) : draw_plan(a.k % 256, a.n % 256, plan);
         a.input_length = draw_window(plan, a.plan_length, word);
     }
     if (a.call == SMUDGED) draw_smudge(a.k, word, a.input_length);
     if (a.call == PICTURE) draw_picture(&a);
-    size_t most = a.call == PICTURE ? MOST_TRAY - 64 : 2000, exact = answer_length(&a) < most ? answer_length(&a) : most;
+    if (has_count(a.call)) a.count_length = below(8) == 0 ? below(MOST_COUNT) : NUMBER;
+    size_t most = has_count(a.call) ? MOST_TRAY - 64 : 2000, needed = answer_length(&a), exact = needed < most ? needed : most;
     size_t lengths[] = {exact, exact, exact + 1, exact + 3, exact + below(64), exact == 0 ? 0 : exact - 1, below(64), 0};
     a.tray_length = lengths[below(8)];
     try_call(&a);
@@ -820,7 +891,7 @@ int main(int count, char **arguments) {
     input_room = make_room(256);
     plan_room = make_room(MOST_PLAN);
     tray_room = make_room(MOST_TRAY);
-    size_room = make_room(MOST_SIZE);
+    count_room = make_room(MOST_COUNT);
     all_sets();
     all_plan_sets();
     all_sections();
