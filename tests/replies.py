@@ -14,10 +14,11 @@ from itertools import product
 import model
 import stripwalk
 from model import LARGE, MOST_MARKS, MOST_PLACES, MOST_SHADES, cursor_start, cursor_with, number, plan_bytes, small_strips, strip_of
-from vectors import HUGE, plain, repeated, runs, topped
+from vectors import HUGE, both, either, plain, random_sections, repeated, runs, spread, topped, torn
 
 MOST_BYTES = 65536  # of a request
-TRAY, PAPER, BEFORE = 64, 512, 170  # bytes of the tray, of that for a picture, and what each holds before the call
+TRAY, PAPER, BEFORE = 64, 512, 170  # bytes of the tray, of that for a picture or a list, and what each holds before the call
+CHANGE = 10  # bytes of an entry of a list
 
 # The numbers that each call can give; the asks below bring each of them about.
 GIVES = {
@@ -27,6 +28,7 @@ GIVES = {
     "lyndon_count": (0, 1),
     "print_picture": (0, 1, 4, 6, 12, 13),
     "check_plan": (0, 1, 7, 8),
+    "misreadings": (0, 1, 2, 3, 6, 7, 8, 9),
     "start_cursor": (0, 1, 4),
     "cursor_place": (0, 1, 10),
     "step": (0, 1, 10),
@@ -71,6 +73,14 @@ def plan_lines(plan):
     yield line("check_plan", model.first(model.plan_faults(plan)))
 
 
+def misread_lines(body):
+    lent, length = int.from_bytes(body[:2], "big"), body[2]
+    fault, entries = model.misreadings_of(body[3 + length:], body[3:3 + length])
+    if lent < len(entries):
+        fault, entries = 6, b""
+    yield line("misreadings", fault, len(entries) // CHANGE, *entries.ljust(PAPER, bytes([BEFORE])))
+
+
 def start_lines(body):
     fault, cursor = cursor_start(*numbers_in(body))
     yield line("start_cursor", fault, *fields_of(cursor))
@@ -84,7 +94,7 @@ def cursor_lines(body):
         yield line(call, fault, mark, passed, *fields_of(moved))
 
 
-LINES = {b"w": word_lines, b"i": picture_lines, b"p": plan_lines, b"s": start_lines, b"c": cursor_lines}
+LINES = {b"w": word_lines, b"i": picture_lines, b"p": plan_lines, b"m": misread_lines, b"s": start_lines, b"c": cursor_lines}
 
 
 def answer(request):
@@ -111,6 +121,10 @@ def ask_picture(k, n, place, width, height, lent):
     return ask(b"i", b"".join(map(number, (k, n, place, width, height))) + lent.to_bytes(2, "big"))
 
 
+def ask_misread(plan, window, lent):
+    return ask(b"m", lent.to_bytes(2, "big") + bytes([len(window)]) + bytes(window) + plan)
+
+
 def ask_start(k, n, place):
     return ask(b"s", number(k) + number(n) + number(place))
 
@@ -125,6 +139,7 @@ def sample():
         ask_word(2, 6, (0, 1, 1, 0, 1, 0), 9), ask_word(2, 6, (0, 1, 2, 0, 1, 0), 9), ask_word(2, 6, (0, 1, 0, 1, 1, 1), 5),
         ask_picture(2, 4, 4, 5, 2, 21), ask_picture(3, 4, 4, 5, 2, 21), ask_picture(2, 4, 4, 5, 2, 18),
         ask(b"p", stripwalk.SAMPLE), ask(b"p", plan_bytes(2, 4, [(0, 8), (7, 5)])),
+        ask_misread(stripwalk.SAMPLE, (1, 0, 1, 1), 23), ask_misread(stripwalk.SAMPLE, (1, 0, 0, 1), 23),
         ask_start(2, 6, 28), ask_start(2, 6, 64), ask_cursor(good), ask_cursor(good[:4] + (6,)),
     ))
 
@@ -189,6 +204,62 @@ def refused_pictures():
     sizes = ((1, 1), (60000, 64), (0, 1), (60001, 1), (1, 0), (1, 65), (2**32 + 1, 1), (1, 2**64 - 1))
     for (k, n), place, (width, height), lent in product(((2, 4), (3, 4), (1, 4), (36, 12), (2, 61), (2**32 + 2, 4)), (0, 15, 16, 2**63), sizes, (0, 9, PAPER)):
         yield ask_picture(k, n, place, width, height, lent)
+
+
+# Misreadings
+
+def lists(plan, window):
+    """A window in trays of no bytes, an entry and a byte too short, exact and longer, as far as there is paper."""
+    size = len(model.misreadings_of(plan, window)[1])
+    for lent in sorted({0, size - CHANGE, size - 1, size, size + 3, PAPER}):
+        if 0 <= lent <= PAPER:
+            yield ask_misread(plan, window, lent)
+
+
+def every_list(chance):
+    """Each window, laid or not, in plans of no section, of the whole strip, of two that touch, and in such as come; some of a longer strip in every tray."""
+    for k, n in ((2, 1), (2, 2), (2, 4), (3, 2), (5, 1), (4, 2), (2, 5), (36, 1), (9, 2)):
+        places = k**n
+        half = max(n, places // 2)
+        plans = [either(k, n, sections, chance) for sections in ([], [(0, places)])] + both(k, n, [(0, half), (half, places - half)], chance)
+        for _ in range(2):
+            plans += both(k, n, random_sections(places, n, 4, chance), chance)
+        for plan, window in product(plans, model.words(k, n)):
+            yield from lists(plan, window) if chance.random() < 32 / places else [ask_misread(plan, window, PAPER)]
+
+
+def large_lists(chance):
+    """Windows of large strips, of which the lists are often longer than the paper, in plans of one section and of 500."""
+    for (k, n), m in product(LARGE, (1, 500)):
+        plan = either(k, n, spread(k**n, n, m, chance), chance)
+        for make in (runs, repeated, plain, topped):
+            yield ask_misread(plan, make(k, n, chance), chance.choice((0, 100, PAPER)))
+        offset, length = chance.choice(model.sections_of(plan))
+        yield ask_misread(plan, strip_of(k, n).marks(offset + length - n, n), PAPER)
+
+
+def refused_lists():
+    """7, 1, 8, 2, 3, 9 and 6: alone and together."""
+    windows = ((0, 0, 0, 0), (2,) * 5, (1, 0, 0, 0), (1, 0, 1, 1), (0, 0, 0), (0,) * 5, (0, 0, 0, 2), (0, 255, 0, 0), (255, 0, 0), (255,) * 255, ())
+    for k, n in ((2, 4), (1, 4), (37, 1), (2, 61), (0, 0), (255, 255)):
+        for sections, rails in product(([(0, 6), (8, 8)], [(0, 6), (5, 8)], [(12, 4)], []), (None, (7, 7))):
+            plan = plan_bytes(k, n, sections, rails and rails[:len(sections)])
+            for window, lent in product(windows, (0, PAPER)):
+                yield ask_misread(plan, window, lent)
+            for broken, window in product(torn(plan), windows[:2]):
+                yield ask_misread(broken, window, PAPER)
+
+
+def junk_lists(chance):
+    """Good plans with a few bytes changed, and bytes of any kind; windows of any kind."""
+    for _ in range(600):
+        k, n = chance.choice(small_strips(64))
+        plan = bytearray(either(k, n, random_sections(k**n, n, 3, chance), chance))
+        for _ in range(chance.randrange(3)):
+            plan[chance.randrange(len(plan))] = chance.choice((0, 1, 7, chance.randrange(256)))
+        window = [chance.randrange(k) if chance.random() < 0.98 else chance.randrange(256) for _ in range(n + chance.choice((0, 0, 0, 0, 1)))]
+        yield ask_misread(bytes(plan), window, chance.randrange(PAPER + 1))
+        yield ask_misread(chance.randbytes(chance.randrange(60)), chance.randbytes(chance.randrange(9)), chance.randrange(PAPER + 1))
 
 
 # Starts
@@ -350,6 +421,10 @@ def requests():
         "refused words": refused_words(),
         "pictures": pictures(),
         "refused pictures": refused_pictures(),
+        "every list": every_list(chance),
+        "large lists": large_lists(chance),
+        "refused lists": refused_lists(),
+        "junk lists": junk_lists(chance),
         "every start": every_start(),
         "large starts": large_starts(chance),
         "refused starts": refused_starts(),
