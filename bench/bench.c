@@ -6,10 +6,11 @@
 #include <stdlib.h>
 #include <time.h>
 
-enum { TURN, RANK, PLACE, WORD, MARK, LOOK, SMUDGED, PRINT, PICTURE, CALLS };
+enum { TURN, RANK, PLACE, WORD, MARK, LOOK, SMUDGED, MISREAD, PRINT, PICTURE, CALLS };
 enum { LIBRARY, PLAIN, BEST, COPY, MAKERS };
 enum { INPUTS = 64, ROUNDS = 15, PRINTED = 1 << 20, WIDTH = STRIP_MOST_WIDTH, HEIGHT = STRIP_MOST_HEIGHT, FILE_BYTES = STRIP_MOST_PICTURE };
-static const char *const NAMES[CALLS] = {"turn_of", "rank_of", "place_of", "word_of", "mark_at", "look_up", "look_up_smudged", "print_marks", "picture_of"};
+static const char *const NAMES[CALLS] = {"turn_of", "rank_of",         "place_of",       "word_of",     "mark_at",
+                                         "look_up", "look_up_smudged", "misreadings_of", "print_marks", "picture_of"};
 static const uint64_t STRIPS[][2] = {{2, 60}, {4, 30}, {36, 11}};
 
 static uint64_t k, n, numbers[INPUTS];
@@ -23,15 +24,8 @@ static uint64_t draw(void) {
     return x ^ x >> 31;
 }
 
-static void draw_inputs(int call) {
-    uint64_t limit = call == WORD ? lyndon_count(k, n) : places_of(k, n), room = places_of(k, n) / SECTIONS;
-    for (int i = 0; i < INPUTS; i++) {
-        numbers[i] = draw() % limit + (call == WORD);
-        for (uint64_t j = 0; j < n; j++) words[i][j] = (uint8_t)(draw() % k);
-        /* half of the windows looked up cross the welded joint of a section and the next */
-        if (call == LOOK && i % 2 != 0) print_marks(k, n, (draw() % SECTIONS | 1) * room - 1 - draw() % (n - 1), n, words[i], n);
-        for (int unread = 0; call == SMUDGED && unread < STRIP_MOST_UNREAD; unread++) words[i][draw() % n] = STRIP_UNREAD;
-    }
+static void lay_sections(int call) {
+    uint64_t room = places_of(k, n) / SECTIONS;
     plan[0] = (uint8_t)k;
     plan[1] = (uint8_t)n;
     put_number(plan + 2, SECTIONS, 2);
@@ -41,6 +35,24 @@ static void draw_inputs(int call) {
         /* of smudged windows hardly any is laid, so that all fillings are tried */
         put_number(at + 8, call == SMUDGED ? n : room - i % 2 * (room / 8), 8);
         put_number(at + 16, i / 2, 2); /* the sections that meet have one rail */
+    }
+}
+
+static void draw_word(uint8_t *word) {
+    for (uint64_t j = 0; j < n; j++) word[j] = (uint8_t)(draw() % k);
+}
+
+static void draw_inputs(int call) {
+    uint64_t limit = call == WORD ? lyndon_count(k, n) : places_of(k, n), room = places_of(k, n) / SECTIONS;
+    for (int i = 0; i < INPUTS; i++) {
+        uint8_t tray[MOST];
+        numbers[i] = draw() % limit + (call == WORD);
+        draw_word(words[i]);
+        /* half of the windows looked up cross the welded joint of a section and the next */
+        if (call == LOOK && i % 2 != 0) print_marks(k, n, (draw() % SECTIONS | 1) * room - 1 - draw() % (n - 1), n, words[i], n);
+        for (int unread = 0; call == SMUDGED && unread < STRIP_MOST_UNREAD; unread++) words[i][draw() % n] = STRIP_UNREAD;
+        /* a window of which the misreadings are asked is laid */
+        while (call == MISREAD && look_up(plan, sizeof plan, words[i], n, tray, MOST) != 0) draw_word(words[i]);
     }
 }
 
@@ -54,6 +66,7 @@ static void draw_inputs(int call) {
         case MARK: return name##mark_at(k, n, numbers[i], tray, MOST);                                                                  \
         case LOOK: return name##look_up(plan, sizeof plan, words[i], n, tray, MOST);                                                    \
         case SMUDGED: return name##look_up_smudged(plan, sizeof plan, words[i], n, tray, MOST);                                         \
+        case MISREAD: return name##misreadings_of(plan, sizeof plan, words[i], n, tray, MOST, printed[maker], STRIP_MOST_LIST);         \
         case PRINT: return name##print_marks(k, n, numbers[i], PRINTED, printed[maker], PRINTED);                                       \
         default: return name##picture_of(k, n, numbers[i], WIDTH, HEIGHT, tray, MOST, printed[maker], FILE_BYTES);                      \
         }
@@ -79,7 +92,7 @@ static void check(int call, int inputs) {
         for (int maker = LIBRARY; maker <= BEST; maker++) given[maker] = ask(maker, call, i, trays[maker]);
         for (int maker = PLAIN; maker <= BEST; maker++)
             if (given[maker] != given[LIBRARY] || memcmp(trays[maker], trays[LIBRARY], MOST) != 0 ||
-                (prints(call) && memcmp(printed[maker], printed[LIBRARY], FILE_BYTES) != 0)) {
+                ((prints(call) || call == MISREAD) && memcmp(printed[maker], printed[LIBRARY], FILE_BYTES) != 0)) {
                 fprintf(stderr, "bench: %s on (%d, %d), input %d: answers differ\n", NAMES[call], (int)k, (int)n, i);
                 exit(1);
             }
@@ -108,6 +121,7 @@ static double pass(int maker, int call, int inputs) {
 static void measure(int call) {
     double least[MAKERS];
     int inputs = prints(call) ? 4 : INPUTS, makers = prints(call) ? MAKERS : COPY;
+    lay_sections(call);
     draw_inputs(call);
     check(call, inputs);
     for (int round = 0; round < ROUNDS; round++)

@@ -17,7 +17,9 @@ enum { MOST = 60, SECTIONS = 500 };
     uint8_t name##_picture_of(uint64_t k, uint64_t n, uint64_t place, uint64_t width, uint64_t height, uint8_t *size, size_t size_len,  \
                               uint8_t *tray, size_t tray_len);                                                                          \
     uint8_t name##_look_up(const uint8_t *plan, size_t plan_len, const uint8_t *window, size_t window_len, uint8_t *tray, size_t tray_len); \
-    uint8_t name##_look_up_smudged(const uint8_t *plan, size_t plan_len, const uint8_t *window, size_t window_len, uint8_t *tray, size_t tray_len)
+    uint8_t name##_look_up_smudged(const uint8_t *plan, size_t plan_len, const uint8_t *window, size_t window_len, uint8_t *tray, size_t tray_len); \
+    uint8_t name##_misreadings_of(const uint8_t *plan, size_t plan_len, const uint8_t *window, size_t window_len, uint8_t *count, size_t count_len, \
+                                  uint8_t *tray, size_t tray_len)
 CALLS_OF(plain);
 CALLS_OF(best);
 
@@ -148,6 +150,51 @@ static inline uint8_t fit_in(place_call *place_of_it, laid_at *laid, const uint8
         given = look_in(place_of_it, laid, plan, plan_len, filled, window_len, tray, tray_len);
     }
     return given;
+}
+
+/* the place of a window without fault */
+typedef uint64_t place_in(uint64_t k, size_t n, const uint8_t *window);
+
+/* a list of misreadings as far as it is made: the plan, how a place is found and looked for in it, and the window, of which a mark is changed at a time */
+struct changes {
+    const uint8_t *plan;
+    size_t plan_len, entries;
+    place_in *place;
+    laid_at *laid;
+    uint8_t window[MOST], list[STRIP_MOST_LIST];
+};
+
+/* one mark with another shade: an entry more, if there is such a shade and the window is laid then */
+static inline void try_change(struct changes *c, size_t mark, unsigned shade) {
+    uint8_t answer[STRIP_LAYING], read = c->window[mark], *entry = c->list + STRIP_ENTRY * c->entries;
+    if (shade >= c->plan[0]) return;
+    c->window[mark] = (uint8_t)shade;
+    uint64_t place = c->place(c->plan[0], c->plan[1], c->window);
+    c->window[mark] = read;
+    if (!c->laid(c->plan, c->plan_len, place, answer)) return;
+    entry[0] = (uint8_t)mark;
+    entry[1] = (uint8_t)shade;
+    put_number(entry + 2, place, 8);
+    c->entries++;
+}
+
+/* the misreadings of a window in a plan without fault, made in the order of the list */
+static inline uint8_t misread_in(place_in *place, laid_at *laid, const uint8_t *plan, size_t plan_len, const uint8_t *window, size_t window_len,
+                                 uint8_t *count, size_t count_len, uint8_t *tray, size_t tray_len) {
+    struct changes c = {.plan = plan, .plan_len = plan_len, .place = place, .laid = laid};
+    uint8_t answer[STRIP_LAYING], fault = word_fault(plan[0], plan[1], window, window_len);
+    if (fault != 0) return fault;
+    if (!laid(plan, plan_len, place(plan[0], plan[1], window), answer)) return 9;
+    memcpy(c.window, window, window_len);
+    for (unsigned apart = 1; apart < plan[0]; apart++)
+        for (size_t mark = 0; mark < window_len; mark++) {
+            try_change(&c, mark, window[mark] - apart); /* below 0 it wraps to no shade */
+            try_change(&c, mark, window[mark] + apart);
+        }
+    if (count_len < 8 || tray_len < STRIP_ENTRY * c.entries) return 6;
+    put_number(count, c.entries, 8);
+    memcpy(tray, c.list, STRIP_ENTRY * c.entries);
+    return 0;
 }
 
 /* the length of the shortest word that, repeated, gives a word that is its own smallest rotation */
