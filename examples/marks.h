@@ -1,4 +1,4 @@
-/* What the example hosts share: numbers in a tray, marks as they are written, and a window looked up in a plan. */
+/* What the example hosts share: numbers in a tray, marks as they are written, a window looked up in a plan, and the windows of a command line. */
 #ifndef MARKS_H
 #define MARKS_H
 #include "strip.h"
@@ -24,6 +24,11 @@ static size_t marks_of(const char *text, uint8_t *marks, size_t room)
     return count;
 }
 
+static void tell_refusal(const char *text, uint8_t refused)
+{
+    printf("%s: refused %u, %s\n", text, refused, strip_meaning(refused));
+}
+
 /* Prints by how many marks a window of a plan's strip is turned to its smallest rotation, if all its marks were read. */
 static void tell_turn(const uint8_t *plan, const uint8_t *window, size_t count)
 {
@@ -40,12 +45,28 @@ static void look(const uint8_t *plan, size_t plan_len, const char *text)
     size_t count = marks_of(text, window, sizeof window);
     uint8_t refused = look_up_smudged(plan, plan_len, window, count, tray, sizeof tray);
     if (refused != STRIP_FINE) {
-        printf("%s: refused %u, %s\n", text, refused, strip_meaning(refused));
+        tell_refusal(text, refused);
         return;
     }
     printf("%s: section %llu, distance %llu, rail %llu", text, (unsigned long long)number(tray, 2), (unsigned long long)number(tray + 2, 8),
            (unsigned long long)number(tray + 10, 2));
     tell_turn(plan, window, count);
     printf("\n");
+}
+
+/* Tells of each window of a command line, behind the name of a plan file; what the program is to return. Inline, as the planner has no use for it. */
+static inline int tell_each(const char *host, int argc, char **argv, void (*tell)(const uint8_t *plan, size_t plan_len, const char *text))
+{
+    uint8_t plan[STRIP_MOST_PLAN + 1]; /* one byte more, so that a longer file is a torn plan */
+    FILE *file = argc < 2 ? NULL : fopen(argv[1], "rb");
+    if (file == NULL) {
+        fprintf(stderr, "usage: %s PLAN MARKS...\n", host);
+        return 2;
+    }
+    size_t plan_len = fread(plan, 1, sizeof plan, file);
+    fclose(file);
+    for (int i = 2; i < argc; i++)
+        tell(plan, plan_len, argv[i]);
+    return 0;
 }
 #endif

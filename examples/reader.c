@@ -6,15 +6,5 @@
 
 int main(int argc, char **argv)
 {
-    uint8_t plan[STRIP_MOST_PLAN + 1]; /* one byte more, so that a longer file is a torn plan */
-    FILE *file = argc < 2 ? NULL : fopen(argv[1], "rb");
-    if (file == NULL) {
-        fprintf(stderr, "usage: reader PLAN MARKS...\n");
-        return 2;
-    }
-    size_t plan_len = fread(plan, 1, sizeof plan, file);
-    fclose(file);
-    for (int i = 2; i < argc; i++)
-        look(plan, plan_len, argv[i]);
-    return 0;
+    return tell_each("reader", argc, argv, look);
 }
