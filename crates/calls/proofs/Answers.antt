@@ -62,7 +62,10 @@ pub beside-answer : {f v x : ℕ} (b t : List ℕ) {t′ : List ℕ} {r : DV.Val
     → t′ ≡ over b t → IntoValue f v (pick (eqb f 0) b []) t t′ r
 beside-answer b t h l e a g = (into-answer b t h l (a .0) g, rw (a .0) (a .1 ∙ e))
 
--- bytes into a tray and a value into another
+-- bytes into a tray and a value into another; with room for the value only the fault counts
+pub or-room : (f : ℕ) (s : List ℕ) → 8 ≤ length s → orShort f s ≡ f
+or-room f s room = ap (λ c. firstOf f (when c 6)) (le-ltb (length s) 8 room) ∙ first-zero f
+
 module _ (f v : ℕ) (b s t : List ℕ) where
   pub both-refused : {x : ℕ} → f ≡ x → ¬ (x ≡ 0) → IntoBoth f v b s s t t x
   both-refused {x} e some = (into-refused b t (first-some f _ (λ z. some (sym e ∙ z)) ∙ e) some refl, rw (ne-eqb x 0 some))
@@ -77,7 +80,7 @@ module _ (f v : ℕ) (b s t : List ℕ) where
   module _ (fine : f ≡ 0) where
     module _ (room : 8 ≤ length s) where
       both-fine : orShort f s ≡ 0
-      both-fine = rw (fine, le-ltb (length s) 8 room)
+      both-fine = or-room f s room ∙ fine
 
       pub both-small : length t < length b → IntoBoth f v b s s t t 6
       both-small l = (into-small b t both-fine l refl refl, refl)
@@ -88,9 +91,7 @@ module _ (f v : ℕ) (b s t : List ℕ) where
   -- an answer with a value beside it; the value is told in a tray that has room for it
   module _ (room : 8 ≤ length s) {t′ : List ℕ} {r : DV.Value} (e : IntoValue f v (pick (eqb f 0) b []) t t′ r) where
     beside-both : {x : ℕ} → r .number ≡ x → Into (orShort f s) (pick (eqb (orShort f s) 0) b []) t t′ x
-    beside-both {x} is =
-        let same : orShort f s ≡ f = ap (λ c. firstOf f (when c 6)) (le-ltb (length s) 8 room) ∙ first-zero f in
-        subst (λ g. Into g (pick (eqb g 0) b []) t t′ x) (sym same) (subst (Into f (pick (eqb f 0) b []) t t′) is (e .0))
+    beside-both {x} is = subst (λ g. Into g (pick (eqb g 0) b []) t t′ x) (sym (or-room f s room)) (subst (Into f (pick (eqb f 0) b []) t t′) is (e .0))
 
     pub untold : ¬ (r .number ≡ 0) → IntoBoth f v b s s t t′ (r .number)
     untold some = (beside-both refl, rw (ne-eqb (r .number) 0 some))

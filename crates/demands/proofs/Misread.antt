@@ -8,8 +8,7 @@ use native.Mathlib.Nat.{zero-add}
 use lib.Dec.{eqb}
 use lib.ListN.{length, getD, take, drop}
 use lib.Seq.{drop-drop, drop-append-add, drop-at}
-use borrow.Author.Tests.{le-ltb}
-use Rattle.theory.specs.Words.{pick, firstOf, when, below, marksOk}
+use Rattle.theory.specs.Words.{pick, below, marksOk}
 use Rattle.theory.specs.Lists.{In}
 use Rattle.theory.specs.Strips.{window}
 use Rattle.theory.specs.Plans.{be, beFrom, shades, marks, planFault, laidAt, lookupFault}
@@ -17,14 +16,15 @@ use Rattle.theory.specs.Substitutions.{Change, change, changed, newPlace, misre
 use Rattle.theory.proofs.Lists.{getD-in, index, in-index, key-index}
 use Rattle.theory.proofs.Letters.{marks-set}
 use Rattle.theory.proofs.Rings.{one-place}
-use Rattle.theory.proofs.Faults.{first-zero, word-fine}
+use Rattle.theory.proofs.Faults.{word-fine}
 use Rattle.theory.proofs.Laying.{plan-good, lookup-good, laid-window}
 use Rattle.theory.proofs.Substitutions.{changed-length, misread-in, in-misread, ordered, few, most}
 use Rattle.shape.proofs.Limits.{Limits, admitted-limits}
 use Rattle.buffers.specs.Buffers.{over}
 use Rattle.numbers.proofs.Numbers.{put-read}
 use Rattle.calls.specs.declared.Value as DV
-use Rattle.calls.specs.Answers.{Into, orShort}
+use Rattle.calls.specs.Answers.{Into}
+use Rattle.calls.proofs.Answers.{or-room}
 use Rattle.substitutions.specs.Entries.{entryBytes, listBytes}
 use Rattle.substitutions.proofs.Writing.{entries-long}
 use Rattle.misreadings.specs.Says.{entriesOf, MisreadingsSays, MisreadingListSays}
@@ -125,8 +125,7 @@ misread-answers s p t t′ r good laid room e =
 pub misread-both : (s w c c′ t t′ u : List ℕ) (r : DV.Value) (q : ℕ) → 8 ≤ length c → MisreadingsSays s w t t′ r → MisreadingListSays s w c c′ t u q
     → (q ≡ r .number) × (u ≡ t′) × (q ≡ 0 → be 0 8 c′ ≡ r .value)
 misread-both s w c c′ t t′ u r q room e f =
-    let same : orShort (lookupFault s w) c ≡ lookupFault s w = ap (λ x. firstOf (lookupFault s w) (when x 6)) (le-ltb (length c) 8 room) ∙ first-zero (lookupFault s w) in
-    let list : Into (lookupFault s w) (pick (eqb (lookupFault s w) 0) (entriesOf s w) []) t u q = subst (λ g. Into g (pick (eqb g 0) (entriesOf s w) []) t u q) same (f .0) in
+    let list : Into (lookupFault s w) (pick (eqb (lookupFault s w) 0) (entriesOf s w) []) t u q = subst (λ g. Into g (pick (eqb g 0) (entriesOf s w) []) t u q) (or-room (lookupFault s w) c room) (f .0) in
     let number : q ≡ r .number = list .0 ∙ sym (e .0 .0) in
     (number, list .1 ∙ sym (e .0 .1), λ z. count list z (sym number ∙ z))
   where

@@ -4,16 +4,17 @@ use mathlib.Core.Bool.{true}
 use mathlib.Core.List.{List, _++_}
 use Prim.Native.Nat.{ℕ, _+_, _^_, _≤_, _<_}
 use native.Mathlib.Omega.{arith}
-use lib.Dec.{ltb}
 use lib.ListN.{length, take, drop}
 use lib.Seq.{take-at, drop-at, take-take}
-use borrow.Author.Tests.{le-ltb, le-leb}
-use Rattle.theory.specs.Words.{firstOf, when, repeated}
+use borrow.Author.Tests.{le-leb}
+use Rattle.theory.specs.Words.{repeated}
 use Rattle.theory.specs.Strips.{admitted}
 use Rattle.theory.specs.Plans.{be}
 use Rattle.theory.proofs.Rings.{admitted-range}
 use Rattle.calls.specs.declared.Value as DV
 use Rattle.calls.specs.Refusals.{pictureFault}
+use Rattle.calls.specs.Answers.{orShort}
+use Rattle.calls.proofs.Answers.{or-room}
 use Rattle.marks.specs.Says.{PrintSays}
 use Rattle.pbm.specs.declared.Parts as DP
 use Rattle.pbm.specs.Pictures.{picture, fileSize, readPicture}
@@ -52,8 +53,7 @@ module _ (n p c h : ℕ) (a : admitted 2 n ≡ true) (l : p < 2 ^ n) (frame : Fr
   pub picture-both : (s s′ t t′ : List ℕ) (r : ℕ) → 8 ≤ length s → fileSize c h ≤ length t → BothSay 2 n p c h s s′ t t′ r
       → (r ≡ 0) × (be 0 8 s′ ≡ fileSize c h) × (take (be 0 8 s′) t′ ≡ file)
   picture-both s s′ t t′ r x y e =
-      let room : firstOf (pictureFault 2 n p c h) (when (ltb (length s) 8) 6) ≡ 0 = rw (fine, le-ltb (length s) 8 x) in
-      let (number, is) = into-fine (firstOf (pictureFault 2 n p c h) (when (ltb (length s) 8) 6)) file t room (omega (arith, size)) (e .0) in
+      let (number, is) = into-fine (orShort (pictureFault 2 n p c h) s) file t (or-room (pictureFault 2 n p c h) s x ∙ fine) (omega (arith, size)) (e .0) in
       let told : be 0 8 s′ ≡ length file = tray-back (length file) s (omega (arith, most 2 n p c h (frame .wide) (frame .high))) (rw number at e .1) in
       (number, told ∙ size, ap₂ take told is ∙ take-at file _ (length file) refl)
 

@@ -1,4 +1,4 @@
--- Single substitutions: which are tried, how many they are and in what order; what a word so changed is; which are listed.
+-- Single substitutions: which are tried, in what order, and how many they are; what a word so changed is; which are listed.
 use mathlib.Core.Path.{_≡_, refl, sym, _∙_, ap, ap₂, subst, subst₂}
 use mathlib.Core.Bool.{Bool, true, _&&_}
 use mathlib.Core.List.{List, [], _∷_}
@@ -66,6 +66,44 @@ module _ (k : ℕ) (w : List ℕ) (d j : ℕ) where
   in-at {s} h (inr e) =
       in-append-right (changesDown d j a) (subst (λ x. In (change j x) (changesUp k d j a)) (sym e) (in-pick (lt-ltb (a + d) k (omega arith))))
 
+-- each letter of a word, changed by d
+module _ (k : ℕ) (w : List ℕ) (d : ℕ) where
+  for-in : {c : Change} → In c (changesFor k w d) → (c .mark < length w) × In c (changesAt k w d (c .mark))
+  for-in {c} i = elim (gather-in (changesAt k w d) (countFrom (length w) 0) i) [
+    | gathered j l m ↦
+        let e : c .mark ≡ j = at-in k w d j m .0 in
+        (omega (arith, e, count-in (length w) 0 l .1), subst (λ x. In c (changesAt k w d x)) (sym e) m)
+  ]
+
+  key-for : 1 ≤ d → Ascending (each (keyOf w) (changesFor k w d))
+  key-for some = key-count (keyOf w) (changesAt k w d) (length w) 0 (λ j _. key-two k w d j some) (λ i j x y l p q. subst₂ Lt (sym (key-at k w d i p)) (sym (key-at k w d j q)) (later (now l)))
+
+-- the changes that are tried
+module _ (k : ℕ) (w : List ℕ) where
+  key-changes : Ascending (each (keyOf w) (changes k w))
+  key-changes = key-count (keyOf w) (changesFor k w) (k - 1) 1 (key-for k w) (λ d e x y l p q. subst₂ Lt (sym (key-at k w d _ (for-in k w d p .1))) (sym (key-at k w e _ (for-in k w e q .1))) (now l))
+
+  module _ (ok : marksOk k w ≡ true) where
+    changes-in : {c : Change} → In c (changes k w) → (c .mark < length w) × (c .shade < k) × (c .shade ≢ getD w (c .mark) 0)
+    changes-in {c} i = elim (gather-in (changesFor k w) (countFrom (k - 1) 1) i) [ gathered d l m ↦ by d (count-in (k - 1) 1 l .0) (for-in k w d m) ]
+      where
+        by : (d : ℕ) → 1 ≤ d → (c .mark < length w) × In c (changesAt k w d (c .mark)) → (c .mark < length w) × (c .shade < k) × (c .shade ≢ getD w (c .mark) 0)
+        by d some (inside, m) =
+            let (_, s) = at-in k w d (c .mark) m in
+            let small = marks-getD k w (c .mark) inside ok in
+            (inside, ⊎-elim (λ h. omega (arith, h, small)) (λ h. omega (arith, h .0, h .1)) s, λ e. ⊎-elim (λ h. omega (arith, h, e)) (λ h. omega (arith, h .0, e)) s)
+
+    in-changes : (c : Change) → c .mark < length w → c .shade < k → c .shade ≢ getD w (c .mark) 0 → In c (changes k w)
+    in-changes c inside h other = elim (cmp (c .shade) (getD w (c .mark) 0)) [
+      | less l ↦ by (getD w (c .mark) 0 - c .shade) (omega arith) (omega (arith, marks-getD k w (c .mark) inside ok)) (inl (omega arith))
+      | equal e ↦ absurd (other e)
+      | more l ↦ by (c .shade - getD w (c .mark) 0) (omega arith) (omega arith) (inr (omega arith))
+    ]
+      where
+        by : (d : ℕ) → 1 ≤ d → d < k → (c .shade + d ≡ getD w (c .mark) 0) ⊎ (c .shade ≡ getD w (c .mark) 0 + d) → In c (changes k w)
+        by d some l e =
+            in-gather (changesFor k w) (in-count (k - 1) 1 d some (omega arith)) (in-gather (changesAt k w d) (in-count (length w) 0 (c .mark) (omega arith) (omega arith)) (in-at k w d (c .mark) h e))
+
 -- how many numbers from 1 to l are up to x, and one more of them
 abbrev upToOf : ℕ → ℕ → ℕ
 upToOf x l = x - (x - l)
@@ -89,78 +127,41 @@ up-many k d j a some = elim (split k (a + d)) [
 two-sums : (p q r s : ℕ) → (p + q) + (r + s) ≡ (p + r) + (q + s)
 two-sums p q r s = omega arith
 
--- each letter of a word, changed by d
-module _ (k : ℕ) (w : List ℕ) (d : ℕ) where
-  for-in : {c : Change} → In c (changesFor k w d) → (c .mark < length w) × In c (changesAt k w d (c .mark))
-  for-in {c} i = elim (gather-in (changesAt k w d) (countFrom (length w) 0) i) [
-    | gathered j l m ↦
-        let e : c .mark ≡ j = at-in k w d j m .0 in
-        (omega (arith, e, count-in (length w) 0 l .1), subst (λ x. In c (changesAt k w d x)) (sym e) m)
-  ]
-
-  key-for : 1 ≤ d → Ascending (each (keyOf w) (changesFor k w d))
-  key-for some = key-count (keyOf w) (changesAt k w d) (length w) 0 (λ j _. key-two k w d j some) (λ i j x y l p q. subst₂ Lt (sym (key-at k w d i p)) (sym (key-at k w d j q)) (later (now l)))
-
--- the changes that are tried
+-- the changes of one letter, by 1 to l, and of all
 module _ (k : ℕ) (w : List ℕ) where
-  key-changes : Ascending (each (keyOf w) (changes k w))
-  key-changes = key-count (keyOf w) (changesFor k w) (k - 1) 1 (key-for k w) (λ d e x y l p q. subst₂ Lt (sym (key-at k w d _ (for-in k w d p .1))) (sym (key-at k w e _ (for-in k w e q .1))) (now l))
+  abbrev by-letter : ℕ → ℕ → List Change
+  by-letter j d = changesAt k w d j
 
-  module _ (ok : marksOk k w ≡ true) where
-    pub changes-in : {c : Change} → In c (changes k w) → (c .mark < length w) × (c .shade < k) × (c .shade ≢ getD w (c .mark) 0)
-    changes-in {c} i = elim (gather-in (changesFor k w) (countFrom (k - 1) 1) i) [ gathered d l m ↦ by d (count-in (k - 1) 1 l .0) (for-in k w d m) ]
-      where
-        by : (d : ℕ) → 1 ≤ d → (c .mark < length w) × In c (changesAt k w d (c .mark)) → (c .mark < length w) × (c .shade < k) × (c .shade ≢ getD w (c .mark) 0)
-        by d some (inside, m) =
-            let (_, s) = at-in k w d (c .mark) m in
-            let small = marks-getD k w (c .mark) inside ok in
-            (inside, ⊎-elim (λ h. omega (arith, h, small)) (λ h. omega (arith, h .0, h .1)) s, λ e. ⊎-elim (λ h. omega (arith, h, e)) (λ h. omega (arith, h .0, e)) s)
+  many-at : (j l : ℕ) → let a = getD w j 0 in length (gather (by-letter j) (countFrom l 1)) ≡ upToOf a l + upToOf (k - 1 - a) l
+  many-at j zero = omega arith
+  many-at j (suc l) =
+      let f = by-letter j in
+      let a = getD w j 0 in
+      let next : length (gather f (countFrom (suc l) 1)) ≡ length (gather f (countFrom l 1)) + length (f (1 + l)) =
+      ap (λ x. length (gather f (countFrom x 1))) (sym (add-one l)) ∙ ap length (gather-next f l 1) ∙ length-append (gather f (countFrom l 1)) (f (1 + l)) in
+      let both : length (f (1 + l)) ≡ one a (1 + l) + one (k - 1 - a) (1 + l) =
+      length-append (changesDown (1 + l) j a) (changesUp k (1 + l) j a) ∙ ap₂ _+_ (down-many (1 + l) j a) (up-many k (1 + l) j a (omega arith)) in
+      next ∙ ap₂ _+_ (many-at j l) both ∙ two-sums (upToOf a l) (upToOf (k - 1 - a) l) _ _ ∙ ap₂ _+_ (one-more a l) (one-more (k - 1 - a) l)
 
-    in-changes : (c : Change) → c .mark < length w → c .shade < k → c .shade ≢ getD w (c .mark) 0 → In c (changes k w)
-    in-changes c inside h other = elim (cmp (c .shade) (getD w (c .mark) 0)) [
-      | less l ↦ by (getD w (c .mark) 0 - c .shade) (omega arith) (omega (arith, marks-getD k w (c .mark) inside ok)) (inl (omega arith))
-      | equal e ↦ absurd (other e)
-      | more l ↦ by (c .shade - getD w (c .mark) 0) (omega arith) (omega arith) (inr (omega arith))
-    ]
-      where
-        by : (d : ℕ) → 1 ≤ d → d < k → (c .shade + d ≡ getD w (c .mark) 0) ⊎ (c .shade ≡ getD w (c .mark) 0 + d) → In c (changes k w)
-        by d some l e =
-            in-gather (changesFor k w) (in-count (k - 1) 1 d some (omega arith)) (in-gather (changesAt k w d) (in-count (length w) 0 (c .mark) (omega arith) (omega arith)) (in-at k w d (c .mark) h e))
-
-    -- how many: the changes of one letter, by 1 to l
-    abbrev by-letter : ℕ → ℕ → List Change
-    by-letter j d = changesAt k w d j
-
-    many-at : (j l : ℕ) → let a = getD w j 0 in length (gather (by-letter j) (countFrom l 1)) ≡ upToOf a l + upToOf (k - 1 - a) l
-    many-at j zero = omega arith
-    many-at j (suc l) =
-        let f = by-letter j in
-        let a = getD w j 0 in
-        let next : length (gather f (countFrom (suc l) 1)) ≡ length (gather f (countFrom l 1)) + length (f (1 + l)) =
-        ap (λ x. length (gather f (countFrom x 1))) (sym (add-one l)) ∙ ap length (gather-next f l 1) ∙ length-append (gather f (countFrom l 1)) (f (1 + l)) in
-        let both : length (f (1 + l)) ≡ one a (1 + l) + one (k - 1 - a) (1 + l) =
-        length-append (changesDown (1 + l) j a) (changesUp k (1 + l) j a) ∙ ap₂ _+_ (down-many (1 + l) j a) (up-many k (1 + l) j a (omega arith)) in
-        next ∙ ap₂ _+_ (many-at j l) both ∙ two-sums (upToOf a l) (upToOf (k - 1 - a) l) _ _ ∙ ap₂ _+_ (one-more a l) (one-more (k - 1 - a) l)
-
-    pub changes-many : length (changes k w) ≡ length w * (k - 1)
-    changes-many =
-        let ds = countFrom (k - 1) 1 in
-        let js = countFrom (length w) 0 in
-        gather-length (changesFor k w) ds
-        ∙ sum-ext (λ d. length (changesFor k w d)) (λ d. sum (λ j. length (changesAt k w d j)) js) ds (λ d _. gather-length (changesAt k w d) js)
-        ∙ sum-swap (λ d j. length (changesAt k w d j)) ds js
-        ∙ sum-ext (λ j. sum (λ d. length (changesAt k w d j)) ds) (λ j. k - 1) js each-letter
-        ∙ sum-const (k - 1) js
-        ∙ ap (λ x. x * (k - 1)) (count-length (length w) 0)
-      where
-        each-letter : (j : ℕ) → In j (countFrom (length w) 0) → sum (λ d. length (changesAt k w d j)) (countFrom (k - 1) 1) ≡ k - 1
-        each-letter j i =
-            let small = marks-getD k w j (omega (arith, count-in (length w) 0 i .1)) ok in
-            sym (gather-length (by-letter j) (countFrom (k - 1) 1)) ∙ many-at j (k - 1) ∙ omega arith
+  pub changes-many : marksOk k w ≡ true → length (changes k w) ≡ length w * (k - 1)
+  changes-many ok =
+      let ds = countFrom (k - 1) 1 in
+      let js = countFrom (length w) 0 in
+      gather-length (changesFor k w) ds
+      ∙ sum-ext (λ d. length (changesFor k w d)) (λ d. sum (λ j. length (changesAt k w d j)) js) ds (λ d _. gather-length (changesAt k w d) js)
+      ∙ sum-swap (λ d j. length (changesAt k w d j)) ds js
+      ∙ sum-ext (λ j. sum (λ d. length (changesAt k w d j)) ds) (λ j. k - 1) js each-letter
+      ∙ sum-const (k - 1) js
+      ∙ ap (λ x. x * (k - 1)) (count-length (length w) 0)
+    where
+      each-letter : (j : ℕ) → In j (countFrom (length w) 0) → sum (λ d. length (changesAt k w d j)) (countFrom (k - 1) 1) ≡ k - 1
+      each-letter j i =
+          let small = marks-getD k w j (omega (arith, count-in (length w) 0 i .1)) ok in
+          sym (gather-length (by-letter j) (countFrom (k - 1) 1)) ∙ many-at j (k - 1) ∙ omega arith
 
 -- a word so changed
 module _ (w : List ℕ) (c : Change) (inside : c .mark < length w) where
-  pub changed-at : getD (changed c w) (c .mark) 0 ≡ c .shade
+  changed-at : getD (changed c w) (c .mark) 0 ≡ c .shade
   changed-at = getD-set-same w (c .mark) (c .shade) 0 inside
 
   changed-other : (j : ℕ) → j ≢ c .mark → getD (changed c w) j 0 ≡ getD w j 0
