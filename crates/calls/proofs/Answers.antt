@@ -77,16 +77,16 @@ module _ (f v : ℕ) (b s t : List ℕ) where
       let some : ¬ (r ≡ 0) = λ z. omega (arith, first-none f 6 (sym e ∙ z) .1) in
       (into-refused b t is some refl, rw (ne-eqb r 0 some))
 
-  module _ (fine : f ≡ 0) where
-    module _ (room : 8 ≤ length s) where
-      both-fine : orShort f s ≡ 0
-      both-fine = or-room f s room ∙ fine
+  -- it has room
+  module _ (fine : f ≡ 0) (room : 8 ≤ length s) where
+    both-fine : orShort f s ≡ 0
+    both-fine = or-room f s room ∙ fine
 
-      pub both-small : length t < length b → IntoBoth f v b s s t t 6
-      both-small l = (into-small b t both-fine l refl refl, refl)
+    pub both-small : length t < length b → IntoBoth f v b s s t t 6
+    both-small l = (into-small b t both-fine l refl refl, refl)
 
-      pub both-answer : {s′ t′ : List ℕ} → length b ≤ length t → t′ ≡ over b t → s′ ≡ over (putBe 8 v) s → IntoBoth f v b s s′ t t′ 0
-      both-answer l is told = (into-answer b t both-fine l refl is, told)
+    pub both-answer : {s′ t′ : List ℕ} → length b ≤ length t → t′ ≡ over b t → s′ ≡ over (putBe 8 v) s → IntoBoth f v b s s′ t t′ 0
+    both-answer l is told = (into-answer b t both-fine l refl is, told)
 
   -- an answer with a value beside it; the value is told in a tray that has room for it
   module _ (room : 8 ≤ length s) {t′ : List ℕ} {r : DV.Value} (e : IntoValue f v (pick (eqb f 0) b []) t t′ r) where

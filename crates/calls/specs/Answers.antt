@@ -21,7 +21,7 @@ IntoValue f v b t t′ r = Into f b t t′ (r .number) × (r .value ≡ pick (eq
 abbrev pub orShort : ℕ → List ℕ → ℕ
 orShort f s = firstOf f (when (ltb (length s) 8) 6)
 
--- the same with the value as 8 bytes in a tray of its own, which holds s at the call and s′ at the return; if either tray is too small, both stay
+-- bytes into a tray, and a value as 8 bytes into one of its own, which holds s at the call and s′ at the return; if either is too small, both stay
 abbrev pub IntoBoth : ℕ → ℕ → List ℕ → List ℕ → List ℕ → List ℕ → List ℕ → ℕ → Type 0
 IntoBoth f v b s s′ t t′ r = let g = orShort f s in Into g (pick (eqb g 0) b []) t t′ r × (s′ ≡ pick (eqb r 0) (over (putBe 8 v) s) s)
 
