@@ -1,9 +1,24 @@
--- Numbers for the divisors of n that a signed sum over them can hold.
+-- The terms of a signed sum over the divisors of n, and numbers that it can hold.
 use mathlib.Core.Path.{_≡_}
 use mathlib.Core.List.{List}
-use Prim.Native.Nat.{ℕ, _^_, _≤_}
+use lib.IntN.{ℤ, pos}
+use Prim.Native.Nat.{ℕ, _*_, _/_, _^_, _≤_}
 use lib.ListN.{length, getD}
+use Rattle.theory.specs.Sums.{mobius, scaled, divisorsDown, running}
 
+-- the term of a divisor d of n: the Möbius value of n/d times the number at d
+abbrev pub summand : ℕ → List ℕ → ℕ → ℤ
+summand n sizes d = scaled (mobius (n / d)) (getD sizes d 0)
+
+-- the sum over all divisors, from n downwards
+abbrev pub total : ℕ → List ℕ → ℤ
+total n sizes = running (summand n sizes) (pos 0) (divisorsDown n)
+
+-- that sum is n times a number
+abbrev pub Whole : ℕ → List ℕ → Type 0
+Whole n sizes = (v : ℕ) × (total n sizes ≡ pos (n * v))
+
+-- for each divisor d of n a number not above k^d
 pub record Summable (k n : ℕ) (sizes : List ℕ) : Type 0 where
   pub two : 2 ≤ k
   pub some : 1 ≤ n

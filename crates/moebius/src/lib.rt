@@ -1,10 +1,10 @@
 // Möbius values and the signed sum over the divisors of a number (document 004, section 3).
 ghost use mathlib.Core.Path.{_≡_};
-ghost use Prim.Native.Nat.{_/_, _^_, _≤_};
+ghost use Prim.Native.Nat.{_^_, _≤_};
 ghost use lib.IntN.{pos};
-ghost use lib.ListN.{getD};
-ghost use Rattle.theory.specs.Sums.{mobius, scaled, divisors, running};
-ghost use Rattle.moebius.specs.Summands.{Summable, Powers};
+ghost use lib.ListN.{length, getD};
+ghost use Rattle.theory.specs.Sums.{mobius, divisorsIn, running};
+ghost use Rattle.moebius.specs.Summands.{summand, Summable, Powers};
 
 // The Möbius values of 1 to 60.
 const MOBIUS: [i8; 60] = [
@@ -78,19 +78,28 @@ fn moebius(n: u64) -> i8
     MOBIUS[(n - 1) as usize]
 }
 
-// The sum over the divisors d of n, smallest first, of the Möbius value of n/d times the number at d.
-pub fn divisor_sum(k: u64, n: u64, sizes: &[u64]) -> i64
-    requires { ⌜ Summable k n (now sizes) ⌝ }
-    ensures { λ r. ⌜ r ≡ running (λ d. scaled (mobius (n / d)) (getD (now (sizes .entry)) d 0)) (pos 0) (divisors n) ⌝ }
+// The term of a divisor d of n in a signed sum: the Möbius value of n/d times the number at d.
+fn term(n: u64, d: u64, sizes: &[u64]) -> i64
+    requires { ⌜ (1 ≤ d) × (d ≤ n) × (n ≤ 60) × (length (now sizes) ≡ 61) × (getD (now sizes) d 0 ≤ 2 ^ 60) ⌝ }
+    ensures { λ r. ⌜ r ≡ summand n (now (sizes .entry)) d ⌝ }
+{
+    let size = sizes[d as usize];
+    (moebius(n / d) as i64) * (size as i64)
+}
+
+// The sum of the terms of n's divisors, from n downwards; of the divisors among the first `count` numbers n, n - 1, .. alone.
+pub fn divisor_sum(k: u64, n: u64, count: u64, sizes: &[u64]) -> i64
+    requires { ⌜ Summable k n (now sizes) × (count ≤ n) ⌝ }
+    ensures { λ r. ⌜ r ≡ running (summand n (now (sizes .entry))) (pos 0) (divisorsIn n count) ⌝ }
 {
     let mut sum: i64 = 0;
-    let mut d = 1;
-    while d <= n {
+    let mut i = 0;
+    while i < count {
+        let d = n - i;
         if n % d == 0 {
-            let size = sizes[d as usize];
-            sum += (moebius(n / d) as i64) * (size as i64);
+            sum += term(n, d, sizes);
         }
-        d += 1;
+        i += 1;
     }
     sum
 }

@@ -17,12 +17,11 @@ use Rattle.theory.proofs.Order.{same-eq}
 use Rattle.theory.proofs.Lists.{keep-all}
 use Rattle.theory.proofs.Counts.{sum, sum-ext, sum-plus, sum-times, sum-const, sum-keep, sum-swap}
 use Rattle.theory.proofs.Listed.{all-count}
-use Rattle.theory.proofs.Running.{less-pos, running-less, plusOne, minusOne, scaled-is, share, sum-running, mobius-sum, any-order, rank-small, count-small}
+use Rattle.theory.proofs.Running.{less-pos, running-less, plusOne, minusOne, scaled-is, share, sum-running}
 use Rattle.theory.proofs.Bases.{bases, base-in, bases-front, bases-whole, upBases, cs-bases, rank-bases}
 use Rattle.theory.proofs.Divisors.{divisors-divide}
 use Rattle.theory.specs.Prenecklaces.{Prenecklace}
 use Rattle.theory.proofs.Necklaces.{smallest-pre}
-use Rattle.theory.specs.Theorems.{Summed}
 
 when-times : (b : Bool) (m c : ℕ) → m * when b c ≡ when b (m * c)
 when-times true m c = refl
@@ -75,15 +74,3 @@ count-sum k n s =
   where
     every : List ℕ → Bool
     every u = true
-
-pub summed : Summed
-summed =
-    record {
-      mobius-sum = mobius-sum;
-      any-order = any-order;
-      by-sum = by-sum;
-      by-divisors = by-divisors;
-      count-sum = count-sum;
-      rank-small = rank-small;
-      count-small = count-small;
-    }

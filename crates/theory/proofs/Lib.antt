@@ -45,6 +45,7 @@ pub mod Automaton
 pub mod Paths
 pub mod Sizes
 pub mod Floors
+pub mod Downwards
 pub mod Search
 pub mod Positions
 pub mod Locating

@@ -1,11 +1,12 @@
 -- Lists in general: members, the members that pass a test, lists without repeats, images, numbers in a row; lists of words that ascend, and lists that do by a key.
 use mathlib.Core.Path.{_≡_, refl, sym, _∙_, ap, ap₂, subst, subst₂}
 use mathlib.Core.Bool.{Bool, true, false, false≢true}
-use mathlib.Core.List.{List, [], _∷_, _++_, append-assoc, append-nil}
+use mathlib.Core.List.{List, [], _∷_, _++_, append-assoc, append-nil, reverse, reverse-cons, reverse-append}
 use mathlib.Core.Logic.{_⊎_, inl, inr, _≢_}
 use Prim.Native.Nat.{ℕ, zero, suc, _+_, _-_, _≤_, _<_}
 use native.Mathlib.Omega.{arith}
 use native.Mathlib.Nat.{zero-add, add-zero, add-suc, suc-add}
+use native.Mathlib.Numerals.{add-one}
 use lib.ListN.{length, getD, take, drop, length-append, take-append-drop}
 use Rattle.theory.specs.Words.{pick, keep, below}
 use Rattle.theory.specs.Lists.{In, here, there, Ascending, Once, each, gather, countFrom}
@@ -101,6 +102,16 @@ module _ {A : Type 0} where
   keep-append f [] ys = refl
   keep-append f (x ∷ xs) ys = rw (keep-append f xs ys, append-assoc)
 
+  pub keep-reverse : (f : A → Bool) (xs : List A) → keep f (reverse xs) ≡ reverse (keep f xs)
+  keep-reverse f [] = refl
+  keep-reverse f (x ∷ xs) =
+      ap (keep f) (reverse-cons x xs) ∙ keep-append f (reverse xs) (x ∷ []) ∙ ap₂ _++_ (keep-reverse f xs) (one (f x))
+      ∙ sym (reverse-append (pick (f x) (x ∷ []) []) (keep f xs))
+    where
+      one : (b : Bool) → pick b (x ∷ []) [] ++ [] ≡ reverse (pick b (x ∷ []) [])
+      one true = refl
+      one false = refl
+
   pub keep-all : (f : A → Bool) (xs : List A) → ((x : A) → In x xs → f x ≡ true) → keep f xs ≡ xs
   keep-all f [] h = refl
   keep-all f (x ∷ xs) h = rw (h x (here refl), keep-all f xs (λ y i. h y (there i)))
@@ -136,6 +147,11 @@ module _ {A : Type 0} where
   once-append [] ys p q h = q
   once-append (x ∷ xs) ys p q h =
       (λ i. elim (in-append-cases xs i) [ inl j ↦ p .0 j | inr j ↦ h x (here refl) j ], once-append xs ys (p .1) q (λ y i j. h y (there i) j))
+
+  pub take-once : (n : ℕ) (xs : List A) → Once xs → Once (take n xs)
+  take-once zero xs p = tt
+  take-once (suc n) [] p = tt
+  take-once (suc n) (x ∷ xs) p = (λ i. p .0 (take-in n xs i), take-once n xs (p .1))
 
   pub keep-once : (f : A → Bool) (xs : List A) → Once xs → Once (keep f xs)
   keep-once f [] p = tt
@@ -217,6 +233,9 @@ count-once (suc l) a = (λ i. let r = count-in l (suc a) i in omega (arith, r .0
 count-split : (i l a : ℕ) → countFrom (i + l) a ≡ countFrom i a ++ countFrom l (a + i)
 count-split zero l a = ap₂ countFrom (zero-add l) (sym (add-zero a))
 count-split (suc i) l a = ap (λ m. countFrom m a) (suc-add i l) ∙ ap (λ r. a ∷ r) (count-split i l (suc a) ∙ ap (λ b. countFrom i (suc a) ++ countFrom l b) (suc-add a i ∙ sym (add-suc a i)))
+
+pub count-last : (l a : ℕ) → countFrom (suc l) a ≡ countFrom l a ++ ((a + l) ∷ [])
+count-last l a = ap (λ m. countFrom m a) (sym (add-one l)) ∙ count-split l 1 a
 
 -- what they have, one after the other: of one number more; of fewer it is no more
 module _ {A : Type 0} (f : ℕ → List A) where

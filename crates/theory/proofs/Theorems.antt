@@ -14,7 +14,7 @@ use Rattle.theory.proofs.Records.{records}
 use Rattle.theory.proofs.Laying.{laid, laid-across, laid-where, laid-each, laid-only, laid-at}
 use Rattle.theory.proofs.Erasures.{smudged}
 use Rattle.theory.proofs.Substitutions.{misread-laws}
-use Rattle.theory.proofs.BySum.{summed}
+use Rattle.theory.proofs.Downwards.{summed}
 use Rattle.theory.proofs.Floors.{floors}
 use Rattle.theory.proofs.Ends.{ends, strip-ends, short-ends}
 use Rattle.theory.proofs.Sizes.{automaton}

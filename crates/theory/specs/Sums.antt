@@ -58,10 +58,22 @@ By-sum =
     (k : ℕ) (w : List ℕ) → 2 ≤ k → marksOk k w ≡ true → 1 ≤ length w → same (smallest w) w ≡ true
     → pos (length w * rank k w) ≡ sumFrom (length w) 1 k w
 
--- the divisors of n, smallest first; a running sum over a list
+-- the divisors of n, smallest first
 abbrev pub divisors : ℕ → List ℕ
 divisors n = keep (λ d. eqb (n % d) 0) (countFrom n 1)
 
+-- n, n−1, .. 1; the divisors of n among the first l of these, and all of them: largest first
+abbrev pub down : ℕ → List ℕ
+down zero = []
+down (suc n) = suc n ∷ down n
+
+abbrev pub divisorsIn : ℕ → ℕ → List ℕ
+divisorsIn n l = keep (λ d. eqb (n % d) 0) (take l (down n))
+
+abbrev pub divisorsDown : ℕ → List ℕ
+divisorsDown n = keep (λ d. eqb (n % d) 0) (down n)
+
+-- a running sum over a list
 abbrev pub running : (ℕ → ℤ) → ℤ → List ℕ → ℤ
 running f a [] = a
 running f a (d ∷ ds) = running f (plus a (f d)) ds

@@ -1,7 +1,7 @@
 -- What is proved of the definitions, for every k and n that the hypotheses name. `Theorems`, at the end, is the whole.
 use mathlib.Core.Path.{_≡_}
 use mathlib.Core.Bool.{Bool, true, false, _&&_}
-use mathlib.Core.List.{List, [], _∷_, _++_}
+use mathlib.Core.List.{List, [], _∷_, _++_, reverse}
 use mathlib.Core.Logic.{_⊎_, _↔_, _≢_}
 use Prim.Native.Nat.{ℕ, suc, _+_, _-_, _*_, _^_, _≤_, _<_}
 use lib.IntN.{ℤ, pos, natAbs}
@@ -9,7 +9,7 @@ use lib.Dec.{eqb, ltb, leb}
 use lib.ListN.{length, getD, take, drop, replicate}
 use Rattle.theory.specs.Words.{pick, firstOf, when, same, below, upTo, turned, isLyndon, smallest, leastTurn, repeated, root, Primitive, allWords, keep, lyndons, howMany, rank, wordOf, marksOk, powerTo}
 use Rattle.theory.specs.Lists.{In, Ascending, Once, each}
-use Rattle.theory.specs.Sums.{cs, mobius, divisors, running, rankTerm, countTerm, By-sum}
+use Rattle.theory.specs.Sums.{cs, mobius, divisors, divisorsDown, running, rankTerm, countTerm, By-sum}
 use Rattle.theory.specs.Floors.{isNecklace, necklaceUpTo, necklaceBelow, floorFrom}
 use Rattle.theory.specs.Automaton.{run, returning, pathsTo}
 use Rattle.theory.specs.Search.{leastWord}
@@ -329,9 +329,13 @@ pub record Misread : Type 0 where
 pub record Summed : Type 0 where
   pub mobius-sum : (n : ℕ) → 1 ≤ n → running mobius (pos 0) (divisors n) ≡ pick (eqb n 1) (pos 1) (pos 0)
   pub any-order : (f : ℕ → ℤ) (a : ℤ) (ds es : List ℕ) → Once ds → Once es → ((d : ℕ) → In d ds ↔ In d es) → running f a ds ≡ running f a es
+  pub down-is : (n : ℕ) → divisorsDown n ≡ reverse (divisors n)
+  pub downwards : (f : ℕ → ℤ) (a : ℤ) (n : ℕ) → running f a (divisorsDown n) ≡ running f a (divisors n)
   pub by-sum : By-sum
   pub by-divisors : (k : ℕ) (w : List ℕ) → 1 ≤ length w → smallest w ≡ w
       → pos (length w * rank k w) ≡ running (rankTerm k w) (pos 0) (divisors (length w))
+  pub worksheet-total : (k : ℕ) (w : List ℕ) → marksOk k w ≡ true → 1 ≤ length w
+      → running (rankTerm k (necklaceUpTo k w)) (pos 0) (divisorsDown (length w)) ≡ pos (length w * rank k w)
   pub count-sum : (k n : ℕ) → 1 ≤ n → pos (n * howMany k n) ≡ running (countTerm k n) (pos 0) (divisors n)
   pub rank-small : (k : ℕ) (w : List ℕ) (ds : List ℕ) → 2 ≤ k → 1 ≤ length w → Once ds → ((d : ℕ) → In d ds → In d (divisors (length w)))
       → natAbs (running (rankTerm k w) (pos 0) ds) ≤ 2 * k ^ length w
