@@ -12,6 +12,7 @@ from pathlib import Path
 import replies
 import stripprint
 import stripwalk
+import worksheet
 
 CRATES = Path(__file__).resolve().parent.parent / "crates"
 
@@ -20,6 +21,7 @@ PROGRAMS = {
     "stripwalk": stripwalk.inputs,
     "stripprint": stripprint.inputs,
     "replies": replies.inputs,
+    "worksheet": worksheet.inputs,
 }
 SILENT = {"stripprint"}  # which write nothing for some inputs; any other writes something for each
 

@@ -2,10 +2,11 @@
 use Rattle.theory.proofs.Theorems.{theorems}
 use Rattle.pbm.proofs.Pictures.{pictures}
 use Rattle.listing.proofs.Alike.{same-listing}
+use Rattle.sheets.proofs.Sheets.{sheets}
 use Rattle.demands.specs.Demands.{Demands}
 use Rattle.demands.proofs.Trays.{trays, no-value, no-value-beside, number-back}
 use Rattle.demands.proofs.Refused.{refusals}
-use Rattle.demands.proofs.Words.{lyndon, rotation, turn, root-told, count, ranked, unranked, word-back, rank-back}
+use Rattle.demands.proofs.Words.{lyndon, rotation, turn, root-told, count, ranked, sheet-ranked, unranked, word-back, rank-back}
 use Rattle.demands.proofs.Marks.{marked, placed, place-back, window-back, printed}
 use Rattle.demands.proofs.Pictures.{picture-back, picture-both, picture-by-rows}
 use Rattle.demands.proofs.Walking.{started, not-started, stands, step, not-stepped, undone, walk, both-ways}
@@ -29,6 +30,8 @@ demands = record {
   unranked = unranked;
   word-back = word-back;
   rank-back = rank-back;
+  sheets = sheets;
+  sheet-ranked = λ k n w t t′ r a e m. sheet-ranked k n w a e m t t′ r;
   marked = marked;
   placed = placed;
   place-back = place-back;

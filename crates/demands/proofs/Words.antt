@@ -1,13 +1,16 @@
 -- Calls on words, down to the bytes: tests, rotations, roots, counts; ranks and words of an index undo each other.
 use mathlib.Core.Path.{_≡_, sym, _∙_, ap, ap₂, subst}
 use mathlib.Core.Bool.{true, false, false≢true}
-use mathlib.Core.List.{List}
+use mathlib.Core.List.{List, _∷_, _++_}
 use mathlib.Core.Logic.{_⊎_, inl, inr, _↔_}
-use Prim.Native.Nat.{ℕ, _^_, _≤_, _<_}
+use Prim.Native.Nat.{ℕ, _*_, _^_, _≤_, _<_}
 use native.Mathlib.Omega.{arith}
+use lib.IntN.{pos}
 use lib.ListN.{length, take}
 use lib.Seq.{take-at}
 use Rattle.theory.specs.Words.{pick, below, upTo, turned, isLyndon, smallest, leastTurn, repeated, powerTo, allWords, lyndons, howMany, rank, wordOf, marksOk}
+use Rattle.theory.specs.Sums.{rankTerm}
+use Rattle.theory.specs.Floors.{necklaceUpTo}
 use Rattle.theory.specs.Strips.{admitted}
 use Rattle.theory.specs.Plans.{be}
 use Rattle.theory.proofs.AllWords.{all-count}
@@ -23,6 +26,9 @@ use Rattle.calls.specs.declared.Value as DV
 use Rattle.calls.specs.Refusals.{theWordFault, indexFault}
 use Rattle.words.specs.Says.{LyndonSays, RotationSays, TurnSays, RootSays}
 use Rattle.ranking.specs.Says.{ManySays, RankSays, WordSays}
+use Rattle.sheets.specs.Worksheets.{sheetLine, worksheet}
+use Rattle.sheets.proofs.Inputs.{fine-sheet}
+use Rattle.sheets.proofs.Sheets.{sheets}
 use Rattle.demands.specs.Demands.{Turn-told}
 use Rattle.demands.proofs.Faults.{strip-faultless, word-faultless, index-faultless}
 use Rattle.demands.proofs.Trays.{into-fine, number-fine, tray-back, small, value-fine, beside-fine}
@@ -91,6 +97,13 @@ module _ (k n : ℕ) (w : List ℕ) (a : admitted k n ≡ true) (e : length w �
       let found = number-fine (theWordFault k n w) (rank k w) t fine x f in
       let most : rank k w ≤ howMany k n = subst (λ i. rank k w ≤ howMany k i) e (rank-small k w) in
       (found .0, found .1, tray-back (rank k w) t (small k n a (omega (arith, most, many-small k n))) (found .1))
+
+  pub sheet-ranked : (t t′ : List ℕ) (r : ℕ) → 8 ≤ length t → RankSays k n w t t′ r
+      → (x : List ℕ) × (worksheet (k ∷ n ∷ w) ≡ x ++ sheetLine 1 (rankTerm k (necklaceUpTo k w) 1) (pos (n * be 0 8 t′)))
+  sheet-ranked t t′ r x f =
+      let (front, is) = sheets .last-line k w m (omega (arith, e, admitted-limits k n a .some)) in
+      let (_, _, told) = ranked t t′ r x f in
+      (front, fine-sheet (k ∷ n ∷ w) fine ∙ is ∙ ap₂ (λ l v. front ++ sheetLine 1 (rankTerm k (necklaceUpTo k w) 1) (pos (l * v))) e (sym told))
 
 pub count : (k n : ℕ) (r : DV.Value) → admitted k n ≡ true → ManySays k n r → (r .number ≡ 0) × (r .value ≡ howMany k n)
 count k n r a f = value-fine (strip-faultless k n a) f

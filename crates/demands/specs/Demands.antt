@@ -2,11 +2,14 @@
 -- A call's promise says what it gives for every argument (specs/Says of words, ranking, marks, pictures, lookups and misreadings; Cursors of cursors): here it stands as a premise.
 use mathlib.Core.Path.{_≡_}
 use mathlib.Core.Bool.{Bool, true, not}
-use mathlib.Core.List.{List, [], _++_}
+use mathlib.Core.List.{List, [], _∷_, _++_}
 use mathlib.Core.Logic.{_↔_, _≢_}
 use Prim.Native.Nat.{ℕ, suc, _+_, _*_, _^_, _≤_, _<_}
+use lib.IntN.{pos}
 use lib.ListN.{length, getD, take, drop, replicate}
 use Rattle.theory.specs.Words.{below, upTo, turned, repeated, powerTo, keep, marksOk, isLyndon, howMany, rank, wordOf}
+use Rattle.theory.specs.Sums.{rankTerm}
+use Rattle.theory.specs.Floors.{necklaceUpTo}
 use Rattle.theory.specs.Rings.{modulo, pathEnd, pathLetters}
 use Rattle.theory.specs.Strips.{admitted, strip, markAt, marksFrom, window, placeIn}
 use Rattle.theory.specs.Plans.{be, shades, marks, sectionCount, sections, welded, nthS, planFault, railOf, layingAt, laidAt}
@@ -28,6 +31,7 @@ use Rattle.pictures.specs.Requests.{pictureFor, PartsSay}
 use Rattle.lookups.specs.Says.{answerSize, LookupSays, SmudgedSays}
 use Rattle.misreadings.specs.Says.{MisreadingsSays, MisreadingListSays}
 use Rattle.listing.specs.Listings.{Same-listing}
+use Rattle.sheets.specs.Worksheets.{sheetLine, worksheet, Sheets}
 use Rattle.cursors.specs.declared.Cursor as DC
 use Rattle.cursors.specs.declared.Started as DS
 use Rattle.cursors.specs.declared.Stepped as DT
@@ -108,6 +112,10 @@ pub record Demands : Type 0 where
       → 8 ≤ length t → n ≤ length u → RankSays k n w t t′ r → WordSays k n (be 0 8 t′) u u′ q → (r ≡ 0) × (q ≡ 0) × (u′ ≡ over w u)
   pub rank-back : (k n i : ℕ) (t t′ u u′ : List ℕ) (r q : ℕ) → admitted k n ≡ true → 1 ≤ i → i ≤ howMany k n
       → n ≤ length t → 8 ≤ length u → WordSays k n i t t′ r → RankSays k n (take n t′) u u′ q → (r ≡ 0) × (q ≡ 0) × (be 0 8 u′ ≡ i)
+  -- worksheet: what is proved of its sheets; the last line of a word's sheet has n times what rank_of writes
+  pub sheets : Sheets
+  pub sheet-ranked : (k n : ℕ) (w t t′ : List ℕ) (r : ℕ) → admitted k n ≡ true → length w ≡ n → marksOk k w ≡ true → 8 ≤ length t → RankSays k n w t t′ r
+      → (x : List ℕ) × (worksheet (k ∷ n ∷ w) ≡ x ++ sheetLine 1 (rankTerm k (necklaceUpTo k w) 1) (pos (n * be 0 8 t′)))
   -- Marks and places: mark_at writes the strip's mark at a place
   pub marked : (k n p : ℕ) (t t′ : List ℕ) (r : ℕ) → admitted k n ≡ true → p < k ^ n → 8 ≤ length t → MarkSays k n p t t′ r
       → (r ≡ 0) × (be 0 8 t′ ≡ markAt k n p) × (be 0 8 t′ < k)

@@ -6,7 +6,8 @@ use lib.Dec.{eqb}
 use Rattle.theory.specs.Words.{pick}
 use Rattle.theory.specs.Plans.{Section, shades, marks, sections}
 use Rattle.theory.proofs.Records.{Same, none, more, alike-sections, alike-fault}
-use Rattle.listing.specs.Listings.{stripLine, sectionLine, sectionLines, refusedLine, Same-listing}
+use Rattle.lines.specs.Lines.{refusedLine}
+use Rattle.listing.specs.Listings.{stripLine, sectionLine, sectionLines, Same-listing}
 
 same-lines : (k n i : ℕ) {xs ys : List Section} → Same xs ys → sectionLines k n i xs ≡ sectionLines k n i ys
 same-lines k n i none = refl

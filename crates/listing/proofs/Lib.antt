@@ -1,5 +1,5 @@
 -- Laws of the listing.
-pub mod Building
+pub mod Fields
 pub mod Sections
 pub mod Openings
 pub mod Alike

@@ -14,7 +14,8 @@ use Rattle.calls.specs.declared.Checked.{Checked}
 use Rattle.calls.specs.declared.Checked.the-variants.{Refused}
 use Rattle.calls.proofs.Checks.{refused-by}
 use Rattle.plans.specs.Opened.{Opens, Accepted}
-use Rattle.listing.specs.Listings.{stripLine, sectionLines, refusedLine, listing}
+use Rattle.lines.specs.Lines.{refusedLine}
+use Rattle.listing.specs.Listings.{stripLine, sectionLines, listing}
 
 -- an accepted plan, with the strip that it is laid on
 module _ (s : List ℕ) {x : DS.Strip} (plan : Accepted s x) where

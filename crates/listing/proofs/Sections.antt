@@ -17,11 +17,13 @@ use Rattle.shape.specs.declared.Strip as DS
 use Rattle.shape.specs.Shapes.{Shaped}
 use Rattle.shape.proofs.Limits.{limits}
 use Rattle.texts.specs.Texts.{decimal, glyphs, fields, Adds}
-use Rattle.listing.specs.Listings.{line, most, sectionLine, sectionLines}
+use Rattle.lines.specs.Lines.{line}
+use Rattle.listing.specs.Listings.{most, sectionLine, sectionLines}
 use Rattle.texts.proofs.Adding.{adds-as}
 use Rattle.texts.proofs.Digits.{glyphs-length}
 use Rattle.access.proofs.Reading.{room, in-room}
-use Rattle.listing.proofs.Building.{Written, more, four-apart}
+use Rattle.lines.proofs.Building.{Written, more}
+use Rattle.listing.proofs.Fields.{four-apart}
 
 -- a section's first window
 module _ {s : DS.Strip} (h : Shaped s) (x : Section) {v : List ℕ} (e : v ≡ marksFrom (s .k) (s .n) (x .offset) (length (take (s .n) room))) where

@@ -8,13 +8,11 @@ use Rattle.theory.specs.Strips.{window}
 use Rattle.theory.specs.Plans.{Section, shades, marks, sections, planFault}
 use Rattle.theory.specs.Theorems.{Alike}
 use Rattle.texts.specs.Texts.{decimal, glyphs, fields}
+use Rattle.lines.specs.Lines.{line, refusedLine}
 
--- the words strip and refused
+-- the word strip
 abbrev pub stripText : List ℕ
 stripText = 115 ∷ 116 ∷ 114 ∷ 105 ∷ 112 ∷ []
-
-abbrev pub refusedText : List ℕ
-refusedText = 114 ∷ 101 ∷ 102 ∷ 117 ∷ 115 ∷ 101 ∷ 100 ∷ []
 
 abbrev pub stripLine : ℕ → ℕ → List ℕ
 stripLine k n = fields stripText (decimal k ∷ decimal n ∷ decimal (k ^ n) ∷ [])
@@ -27,9 +25,6 @@ abbrev pub sectionLines : ℕ → ℕ → ℕ → List Section → List ℕ
 sectionLines k n i [] = []
 sectionLines k n i (x ∷ xs) = sectionLine k n i x ++ sectionLines k n (suc i) xs
 
-abbrev pub refusedLine : ℕ → List ℕ
-refusedLine f = fields refusedText (decimal f ∷ [])
-
 abbrev pub listing : List ℕ → List ℕ
 listing s =
     pick
@@ -41,9 +36,6 @@ listing s =
 abbrev pub Same-listing : Type 0
 Same-listing = (s r : List ℕ) → Alike s r → listing s ≡ listing r
 
--- bytes that hold any line, and any listing: a plan has at most 500 sections
-abbrev pub line : ℕ
-line = 128
-
+-- bytes that hold any listing: a plan has at most 500 sections
 abbrev pub most : ℕ
 most = 501 * line

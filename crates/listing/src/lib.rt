@@ -6,25 +6,14 @@ ghost use Rattle.shape.specs.Shapes.{Shaped};
 ghost use Rattle.texts.specs.Texts.{Adds};
 ghost use Rattle.sections.specs.Read.{sectionOf};
 ghost use Rattle.plans.specs.Opened.{Accepted};
-ghost use Rattle.listing.specs.Listings.{line, most, stripLine, sectionLine, sectionLines, refusedLine, listing};
+ghost use Rattle.lines.specs.Lines.{line};
+ghost use Rattle.listing.specs.Listings.{most, stripLine, sectionLine, sectionLines, listing};
 use calls::Checked;
 use sections::Section;
 use shape::Strip;
 
-// Bytes that hold any line.
-const LINE: usize = 128;
-
 // Bytes that hold any listing: a plan has at most 500 sections.
-pub const MOST: usize = LINE * 501;
-
-// The one line of a refused plan.
-fn put_refused(number: u8, out: &mut [u8]) -> usize
-    requires { ⌜ line ≤ length (now out) ⌝ }
-    ensures { λ r. ⌜ Adds (now (out .entry)) 0 (refusedLine number) (now (out .exit)) r ⌝ }
-{
-    let end = texts::put_bytes(b"refused ", out, 0);
-    texts::put_number(number as u64, b'\n', out, end)
-}
+pub const MOST: usize = lines::LINE * 501;
 
 // The strip that a plan is laid on.
 fn put_strip(s: Strip, out: &mut [u8]) -> usize
@@ -78,6 +67,6 @@ pub fn text(plan: &[u8], out: &mut [u8]) -> usize
             let end = put_strip(s, out);
             put_sections(plan, s, out, end)
         }
-        Checked::Refused(number) => put_refused(number, out),
+        Checked::Refused(number) => lines::put_refused(number, out),
     }
 }

@@ -14,6 +14,7 @@ use Rattle.theory.proofs.Running.{terms-small}
 use Rattle.theory.proofs.Downwards.{in-more, in-skip, in-once, in-part, running-last}
 use Rattle.moebius.specs.Summands.{summand, Summable}
 use Rattle.moebius.proofs.Signed.{plus-is, fits64}
+use Rattle.moebius.proofs.Terms.{summand-small}
 
 pub sumTo : ℕ → List ℕ → ℕ → ℤ
 sumTo n sizes i = running (summand n sizes) (pos 0) (divisorsIn n i)
@@ -43,6 +44,13 @@ module _ (k n : ℕ) (sizes : List ℕ) (s : Summable k n sizes) where
   pub sum-small : (i : ℕ) → natAbs (sumTo n sizes i) ≤ 2 ^ 61
   unfolding sumTo
   sum-small i = omega (arith, s .range, terms-small k n (λ d. getD sizes d 0) (divisorsIn n i) (s .two) (s .some) (in-once n i) (in-part n i (s .some)) (λ d h. s .small d))
+
+  -- any term and any running sum are far from the ends of i64
+  pub term-range : (d : ℕ) → d ≤ n → natAbs (summand n sizes d) < 2 ^ 63
+  term-range d h = omega (arith, summand-small n sizes d, entry-small d h)
+
+  pub sum-range : (l : ℕ) → natAbs (running (summand n sizes) (pos 0) (divisorsIn n l)) < 2 ^ 63
+  sum-range l = rw (← sum-all n sizes l l refl) (omega (arith, sum-small l))
 
   -- one divisor more: sum is the bits of the sum so far, z the term as a call gave it
   module _ (i : ℕ) (h : i < n) (t : n % (n - i) ≡ 0) (sum : ℕ) (so : toZ w64 sum ≡ sumTo n sizes i) (z : ℤ) (e : z ≡ summand n sizes (n - i)) (f : SFits w64 z) where

@@ -79,7 +79,7 @@ fn moebius(n: u64) -> i8
 }
 
 // The term of a divisor d of n in a signed sum: the Möbius value of n/d times the number at d.
-fn term(n: u64, d: u64, sizes: &[u64]) -> i64
+pub fn term(n: u64, d: u64, sizes: &[u64]) -> i64
     requires { ⌜ (1 ≤ d) × (d ≤ n) × (n ≤ 60) × (length (now sizes) ≡ 61) × (getD (now sizes) d 0 ≤ 2 ^ 60) ⌝ }
     ensures { λ r. ⌜ r ≡ summand n (now (sizes .entry)) d ⌝ }
 {

@@ -1,4 +1,5 @@
 -- Laws of texts.
 pub mod Decimals
+pub mod Signs
 pub mod Digits
 pub mod Adding

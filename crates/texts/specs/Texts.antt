@@ -3,6 +3,7 @@ use mathlib.Core.Path.{_≡_}
 use mathlib.Core.Bool.{true, false}
 use mathlib.Core.List.{List, [], _∷_, _++_}
 use Prim.Native.Nat.{ℕ, zero, suc, _+_, _/_, _%_}
+use lib.IntN.{ℤ, pos, negsuc}
 use lib.Dec.{ltb}
 use lib.ListN.{length, take, drop}
 use Rattle.theory.specs.Words.{pick}
@@ -14,6 +15,11 @@ decimalFrom (suc l) v = elim (ltb v 10) [ true ↦ (48 + v) ∷ [] | false ↦ d
 
 abbrev pub decimal : ℕ → List ℕ
 decimal v = decimalFrom (suc v) v
+
+-- a signed number: - (byte 45) before the digits of a negative one
+abbrev pub signed : ℤ → List ℕ
+signed (pos a) = decimal a
+signed (negsuc a) = 45 ∷ decimal (suc a)
 
 -- a letter's digit, 0 to 9 then a to z; a word's digits
 abbrev pub glyph : ℕ → ℕ

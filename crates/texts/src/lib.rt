@@ -1,12 +1,13 @@
 // Text added to a buffer: numbers in decimal, letters as digits, bytes as they are. Each call adds behind the `at` bytes of text that are
 // there, and answers how many there are then.
 ghost use mathlib.Core.Path.{_≡_};
-ghost use Prim.Native.Nat.{_+_, _≤_, _<_};
+ghost use Prim.Native.Nat.{_+_, _^_, _≤_, _<_};
+ghost use lib.IntN.{natAbs};
 ghost use lib.ListN.{length};
 ghost use mathlib.Core.Bool.{true};
 ghost use mathlib.Core.List.{[], _∷_, _++_};
 ghost use Rattle.theory.specs.Words.{marksOk};
-ghost use Rattle.texts.specs.Texts.{decimal, glyph, glyphs, Adds};
+ghost use Rattle.texts.specs.Texts.{decimal, signed, glyph, glyphs, Adds};
 
 // What the digit of a letter from 10 on is more than the letter: the digit of 10 is a.
 const TENS: u8 = b'a' - 10;
@@ -70,4 +71,16 @@ pub fn put_number(v: u64, behind: u8, out: &mut [u8], at: usize) -> usize
     let end = put_decimal(v, out, at);
     out[end] = behind;
     end + 1
+}
+
+// A signed number in decimal, with - before a negative one, and one byte behind it.
+pub fn put_signed(v: i64, behind: u8, out: &mut [u8], at: usize) -> usize
+    requires { ⌜ (natAbs v < 2 ^ 63) × (at + length (signed v) < length (now out)) ⌝ }
+    ensures { λ r. ⌜ Adds (now (out .entry)) at (signed v ++ (behind ∷ [])) (now (out .exit)) r ⌝ }
+{
+    if v < 0 {
+        out[at] = b'-';
+        return put_number((0 - v) as u64, behind, out, at + 1);
+    }
+    put_number(v as u64, behind, out, at)
 }

@@ -9,7 +9,7 @@ use Rattle.access.proofs.Reading.{in-room}
 use Rattle.texts.proofs.Adding.{adds-as}
 use Rattle.sections.specs.Read.{sectionOf}
 use Rattle.listing.proofs.Sections.{window-short, digits-short, window-digits, section-text}
-use Rattle.listing.proofs.Building.{Written, spaced, nothing, more, more-number, room, number-room}
+use Rattle.lines.proofs.Building.{Written, spaced, nothing, more, more-number, room, number-room}
 use Rattle.listing.proofs.put_section.Statement.{statement}
 use Rattle.listing.proofs.put_section.Tie as tie
 

@@ -5,7 +5,7 @@ use native.Mathlib.Omega.{arith}
 use Rattle.theory.specs.Plans.{sectionCount, sections}
 use Rattle.theory.proofs.Records.{sections-count}
 use Rattle.theory.proofs.Laying.{plan-good, accepted-whole}
-use Rattle.listing.proofs.Building.{nothing}
+use Rattle.lines.proofs.Building.{nothing}
 use Rattle.listing.proofs.Openings.{section-starts}
 use Rattle.listing.proofs.Sections.{Lines, line-room, one-more, all-lines}
 use Rattle.listing.proofs.put_sections.Statement.{statement}

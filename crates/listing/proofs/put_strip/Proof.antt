@@ -4,7 +4,8 @@ use native.Mathlib.Omega.{arith}
 use borrow.Author.Needs.{needs}
 use Rattle.texts.proofs.Adding.{adds-as}
 use Rattle.listing.specs.Listings.{stripText}
-use Rattle.listing.proofs.Building.{Written, spaced, nothing, more, more-number, number-room, strip-text, strip-fits}
+use Rattle.lines.proofs.Building.{Written, spaced, nothing, more, more-number, number-room}
+use Rattle.listing.proofs.Fields.{strip-text, strip-fits}
 use Rattle.listing.proofs.put_strip.Statement.{statement}
 use Rattle.listing.proofs.put_strip.Tie as tie
 

@@ -1,16 +1,15 @@
--- Lines built by adding one text behind another in a buffer: what stands there, that the next text has room, and the strip's line at the end.
-use mathlib.Core.Path.{_≡_, refl, _∙_, ap}
-use mathlib.Core.List.{List, [], _∷_, _++_, append-assoc}
+-- Lines built by adding one text behind another in a buffer: what stands there, and that the next text has room.
+use mathlib.Core.Path.{_≡_, refl, _∙_}
+use mathlib.Core.List.{List, [], _∷_, _++_}
 use Prim.Native.Nat.{ℕ, _+_, _^_, _≤_, _<_}
 use native.Mathlib.Omega.{arith}
+use lib.IntN.{ℤ, natAbs}
 use lib.ListN.{length, length-append}
-use Rattle.shape.specs.declared.Strip as DS
-use Rattle.shape.specs.Shapes.{Shaped}
-use Rattle.shape.proofs.Limits.{limits}
-use Rattle.texts.specs.Texts.{decimal, fields, Adds}
+use Rattle.texts.specs.Texts.{decimal, signed, Adds}
 use Rattle.texts.proofs.Adding.{adds-none, adds-more}
 use Rattle.texts.proofs.Decimals.{decimal-fits}
-use Rattle.listing.specs.Listings.{line, stripText, stripLine}
+use Rattle.texts.proofs.Signs.{signed-fits}
+use Rattle.lines.specs.Lines.{line}
 
 -- a text of at most m bytes, added behind the first `at` bytes
 pub record Written (before : List ℕ) (at m : ℕ) (text after : List ℕ) (end : ℕ) : Type 0 where
@@ -45,17 +44,12 @@ pub number-room : {b c : List ℕ} {at e m : ℕ} {x : List ℕ} (v : ℕ) → v
     → e + length (decimal v) < length c
 number-room v h w f r = omega (arith, decimal-fits v h, room 21 w f r)
 
--- four fields, with the last byte added on its own or not
-four : (x y z w : List ℕ) → (((x ++ (32 ∷ [])) ++ (y ++ (32 ∷ []))) ++ (z ++ (32 ∷ []))) ++ (w ++ (10 ∷ [])) ≡ fields x (y ∷ z ∷ w ∷ [])
-four x y z w = simp append-assoc
+-- a signed number and the byte behind it are so too
+pub more-signed : {b c d : List ℕ} {at e f m : ℕ} {x : List ℕ} (v : ℤ) (y : ℕ) → natAbs v < 2 ^ 63 → Written b at m x c e → Adds c e (signed v ++ (y ∷ [])) d f
+    → length d ≡ length c → Written b at (m + 21) (x ++ (signed v ++ (y ∷ []))) d f
+more-signed v y h w a same =
+    more (signed v ++ (y ∷ [])) 21 w a same (omega (arith, length-append (signed v) (y ∷ []), signed-fits v h))
 
-pub four-apart : (x y z w : List ℕ) → ((((x ++ (32 ∷ [])) ++ (y ++ (32 ∷ []))) ++ (z ++ (32 ∷ []))) ++ w) ++ (10 ∷ []) ≡ fields x (y ∷ z ∷ w ∷ [])
-four-apart x y z w = simp append-assoc
-
--- the numbers of a strip, and its line from what was added
-module _ {s : DS.Strip} (h : Shaped s) where
-  pub strip-fits : (s .k < 2 ^ 64) × (s .n < 2 ^ 64) × (s .size < 2 ^ 64)
-  strip-fits = let l = limits h in (omega (arith, l .most), omega (arith, l .short), omega (arith, l .range, h .size))
-
-  pub strip-text : (((stripText ++ (32 ∷ [])) ++ (decimal (s .k) ++ (32 ∷ []))) ++ (decimal (s .n) ++ (32 ∷ []))) ++ (decimal (s .size) ++ (10 ∷ [])) ≡ stripLine (s .k) (s .n)
-  strip-text = four stripText (decimal (s .k)) (decimal (s .n)) (decimal (s .size)) ∙ ap (λ v. fields stripText (decimal (s .k) ∷ decimal (s .n) ∷ decimal v ∷ [])) (h .size)
+pub signed-room : {b c : List ℕ} {at e m : ℕ} {x : List ℕ} (v : ℤ) → natAbs v < 2 ^ 63 → Written b at m x c e → m + 21 ≤ line → at + line ≤ length b
+    → e + length (signed v) < length c
+signed-room v h w f r = omega (arith, signed-fits v h, room 21 w f r)

@@ -1,13 +1,13 @@
--- `listing::put_refused`: the word refused and a number.
+-- `lines::put_refused`: the word refused and a number.
 use mathlib.Core.Path.{refl}
 use mathlib.Core.List.{[], _∷_, _++_}
 use native.Mathlib.Omega.{arith}
 use borrow.Author.Needs.{needs}
 use Rattle.texts.proofs.Adding.{adds-as}
-use Rattle.listing.specs.Listings.{refusedText}
-use Rattle.listing.proofs.Building.{Written, nothing, more, more-number, number-room}
-use Rattle.listing.proofs.put_refused.Statement.{statement}
-use Rattle.listing.proofs.put_refused.Tie as tie
+use Rattle.lines.specs.Lines.{refusedText}
+use Rattle.lines.proofs.Building.{Written, nothing, more, more-number, number-room}
+use Rattle.lines.proofs.put_refused.Statement.{statement}
+use Rattle.lines.proofs.put_refused.Tie as tie
 
 -- the word is written: the start from there, and what stands in the buffer
 abbrev start : tie.After-put-bytes → tie.Start

@@ -1,0 +1,2 @@
+-- The line of a refusal, and how long a line may be.
+pub mod Lines

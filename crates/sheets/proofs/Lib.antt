@@ -1,0 +1,4 @@
+-- Laws of worksheets.
+pub mod Rows
+pub mod Inputs
+pub mod Sheets

@@ -1,0 +1,53 @@
+-- What is proved of worksheets: the lowered word's sheet, the last line, examples by computation.
+use mathlib.Core.Path.{_≡_, refl, sym, _∙_, ap, ap₂}
+use mathlib.Core.Bool.{true}
+use mathlib.Core.List.{List, [], _∷_, _++_}
+use Prim.Native.Nat.{ℕ, _+_, _-_, _*_, _%_, _≤_}
+use native.Mathlib.Omega.{arith}
+use native.Mathlib.Nat.{le-refl, mod-one}
+use lib.IntN.{ℤ, pos}
+use lib.ListN.{length}
+use Rattle.theory.specs.Words.{pick, rank, marksOk}
+use Rattle.theory.specs.Sums.{running, divisorsIn, divisorsDown, rankTerm}
+use Rattle.theory.specs.Floors.{necklaceUpTo, floorFrom}
+use Rattle.theory.proofs.Order.{eq-same}
+use Rattle.theory.proofs.Floors.{floor-is, floor-rule}
+use Rattle.theory.proofs.Downwards.{in-more, in-all, worksheet-total}
+use Rattle.sheets.specs.Worksheets.{sheetLine, sheetFrom, sheet, Sheets}
+use Rattle.sheets.proofs.Rows.{from-last}
+
+lowered : (k : ℕ) (w : List ℕ) → marksOk k w ≡ true → sheet k (necklaceUpTo k w) ≡ sheet k w
+lowered k w m =
+    let v = necklaceUpTo k w in
+    let r = floor-is k w m in
+    let own : necklaceUpTo k v ≡ v = floor-rule k v (r .1) ∙ ap (λ b. pick b v (floorFrom k v (length v))) (eq-same (r .2)) in
+    ap₂ (λ u n. sheetFrom (rankTerm k u) (pos 0) (divisorsDown n)) own (r .0)
+
+-- 1 is the last divisor
+one-last : (n : ℕ) → 1 ≤ n → divisorsDown n ≡ divisorsIn n (n - 1) ++ (1 ∷ [])
+one-last n s =
+    let e : n - 1 + 1 ≡ n = omega arith in
+    let f : n - (n - 1) ≡ 1 = omega arith in
+    sym (in-all n n (le-refl n)) ∙ ap (divisorsIn n) (sym e) ∙ in-more n (n - 1) (omega arith) (ap (λ d. n % d) f ∙ mod-one n) ∙ ap (λ d. divisorsIn n (n - 1) ++ (d ∷ [])) f
+
+last-line : (k : ℕ) (w : List ℕ) → marksOk k w ≡ true → 1 ≤ length w
+    → (x : List ℕ) × (sheet k w ≡ x ++ sheetLine 1 (rankTerm k (necklaceUpTo k w) 1) (pos (length w * rank k w)))
+last-line k w m s =
+    let n = length w in
+    let f = rankTerm k (necklaceUpTo k w) in
+    let ds = divisorsIn n (n - 1) in
+    let down = one-last n s in
+    let sum : running f (pos 0) (ds ++ (1 ∷ [])) ≡ pos (n * rank k w) = ap (running f (pos 0)) (sym down) ∙ worksheet-total k w m s in
+    (sheetFrom f (pos 0) ds, ap (sheetFrom f (pos 0)) down ∙ from-last f (pos 0) ds 1 ∙ ap (λ z. sheetFrom f (pos 0) ds ++ sheetLine 1 (f 1) z) sum)
+
+pub sheets : Sheets
+sheets =
+    record {
+      lowered = lowered;
+      last-line = last-line;
+      zeros = refl;
+      example-10 = refl;
+      lowered-to-it = refl;
+      no-term = refl;
+      refused = (refl, refl, refl, refl, refl);
+    }

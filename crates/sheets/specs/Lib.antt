@@ -1,0 +1,2 @@
+-- The text of a worksheet.
+pub mod Worksheets
