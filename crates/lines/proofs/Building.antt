@@ -1,12 +1,12 @@
 -- Lines built by adding one text behind another in a buffer: what stands there, and that the next text has room.
 use mathlib.Core.Path.{_≡_, refl, _∙_}
 use mathlib.Core.List.{List, [], _∷_, _++_}
-use Prim.Native.Nat.{ℕ, _+_, _^_, _≤_, _<_}
+use Prim.Native.Nat.{ℕ, _+_, _*_, _^_, _≤_, _<_}
 use native.Mathlib.Omega.{arith}
 use lib.IntN.{ℤ, natAbs}
 use lib.ListN.{length, length-append}
 use Rattle.texts.specs.Texts.{decimal, signed, Adds}
-use Rattle.texts.proofs.Adding.{adds-none, adds-more}
+use Rattle.texts.proofs.Adding.{adds-none, adds-as, adds-more}
 use Rattle.texts.proofs.Decimals.{decimal-fits}
 use Rattle.texts.proofs.Signs.{signed-fits}
 use Rattle.lines.specs.Lines.{line}
@@ -53,3 +53,13 @@ more-signed v y h w a same =
 pub signed-room : {b c : List ℕ} {at e m : ℕ} {x : List ℕ} (v : ℤ) → natAbs v < 2 ^ 63 → Written b at m x c e → m + 21 ≤ line → at + line ≤ length b
     → e + length (signed v) < length c
 signed-room v h w f r = omega (arith, signed-fits v h, room 21 w f r)
+
+-- lines one behind the other: where there is room for l of them and fewer stand there, so is there for the next; and with it there is one more
+pub next-room : {b c : List ℕ} {at e : ℕ} {x : List ℕ} (i l : ℕ) → Written b at (line * i) x c e → i < l → at + line * l ≤ length b → e + line ≤ length c
+next-room i l w h r = omega (arith, w .whole, w .few)
+
+pub more-line : {b c d : List ℕ} {at e f : ℕ} {x : List ℕ} (i : ℕ) (y text : List ℕ) → Written b at (line * i) x c e → Adds c e y d f → f ≤ e + line
+    → length d ≡ length c → x ++ y ≡ text → Written b at (line * (i + 1)) text d f
+more-line i y text w a h same t =
+    let m = more y line w a same (omega (arith, a .ends)) in
+    record { adds = adds-as (m .adds) t; whole = m .whole; few = omega (arith, m .few) }

@@ -22,7 +22,7 @@ use Rattle.listing.specs.Listings.{most, sectionLine, sectionLines}
 use Rattle.texts.proofs.Adding.{adds-as}
 use Rattle.texts.proofs.Digits.{glyphs-length}
 use Rattle.access.proofs.Reading.{room, in-room}
-use Rattle.lines.proofs.Building.{Written, more}
+use Rattle.lines.proofs.Building.{Written, next-room, more-line}
 use Rattle.listing.proofs.Fields.{four-apart}
 
 -- a section's first window
@@ -71,14 +71,13 @@ pub record Lines (k n : ℕ) (xs : List Section) (i : ℕ) (before : List ℕ) (
 
 module _ {k n i : ℕ} {xs : List Section} {b c : List ℕ} {at e : ℕ} (l : Lines k n xs i b at c e) where
   pub line-room : at ≤ line → i < 500 → most ≤ length b → e + line ≤ length c
-  line-room h g r = omega (arith, l .written .whole, l .written .few)
+  line-room h g r = next-room i 500 (l .written) g (omega arith)
 
   pub one-more : {d : List ℕ} {f : ℕ} {y : Section} → Adds c e (sectionLine k n i y) d f → f ≤ e + line → length d ≡ length c → y ≡ nthS xs i → i < length xs
       → Lines k n xs (i + 1) b at d f
   one-more {y = y} a g same t h =
-      let w = more (sectionLine k n i y) line (l .written) a same (omega (arith, a .ends)) in
       let text = ap (λ z. sectionLines k n 0 (take i xs) ++ sectionLine k n i z) t ∙ lines-next k n i xs h in
-      record { written = record { adds = adds-as (w .adds) text; whole = w .whole; few = omega (arith, w .few) } }
+      record { written = more-line i (sectionLine k n i y) _ (l .written) a g same text }
 
   pub all-lines : length xs ≤ i → Adds b at (sectionLines k n 0 xs) c e
   all-lines h = adds-as (l .written .adds) (ap (sectionLines k n 0) (take-all i xs h))

@@ -32,7 +32,7 @@ pub fn of_prenecklace(s: Strip, w: &[u8], t: &mut [u64]) -> u64
 }
 
 // The sizes of CS that document 004's sum for any word asks for: those of the largest necklace not above it.
-pub fn sizes(s: Strip, w: &[u8]) -> [u64; 61]
+pub fn sizes_of(s: Strip, w: &[u8]) -> [u64; 61]
     requires { ⌜ WordOn s (now w) ⌝ }
     ensures { λ r. ⌜ Sized (s .k) (necklaceUpTo (s .k) (now (w .entry))) r ⌝ }
 {
@@ -51,7 +51,7 @@ pub fn of_word(s: Strip, w: &[u8]) -> u64
     requires { ⌜ WordOn s (now w) ⌝ }
     ensures { λ r. ⌜ r ≡ rank (s .k) (now (w .entry)) ⌝ }
 {
-    let sizes = sizes(s, w);
+    let sizes = sizes_of(s, w);
     quotient(s, &sizes)
 }
 

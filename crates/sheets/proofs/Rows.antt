@@ -3,8 +3,7 @@ use mathlib.Core.Path.{_≡_, refl, sym, _∙_, ap, ap₂, subst}
 use mathlib.Core.Bool.{true}
 use mathlib.Core.List.{List, [], _∷_, _++_, append-assoc, append-nil}
 use mathlib.Core.Logic.{inl, inr}
-use Prim.Native.Nat.{ℕ, _+_, _-_, _*_, _/_, _%_, _≤_, _<_}
-use native.Mathlib.Omega.{arith}
+use Prim.Native.Nat.{ℕ, _+_, _-_, _/_, _%_, _<_}
 use native.Mathlib.Nat.{le-refl}
 use lib.IntN.{ℤ, pos}
 use lib.Dec.{eqb}
@@ -24,11 +23,8 @@ use Rattle.shape.proofs.Limits.{limits}
 use Rattle.automaton.specs.Tables.{Sized}
 use Rattle.moebius.specs.Summands.{summand}
 use Rattle.ranks.proofs.Floored.{floored}
-use Rattle.texts.specs.Texts.{fields, Adds}
-use Rattle.texts.proofs.Adding.{adds-as}
-use Rattle.lines.specs.Lines.{line}
-use Rattle.lines.proofs.Building.{Written, nothing, more}
-use Rattle.sheets.specs.Worksheets.{sheetLine, sheetFrom, sheet, lineAt, most}
+use Rattle.texts.specs.Texts.{fields}
+use Rattle.sheets.specs.Worksheets.{sheetLine, sheetFrom, sheet, lineAt}
 
 -- three fields from what was added
 pub three : (x y z : List ℕ) → (([] ++ (x ++ (32 ∷ []))) ++ (y ++ (32 ∷ []))) ++ (z ++ (10 ∷ [])) ≡ fields x (y ∷ z ∷ [])
@@ -62,22 +58,6 @@ module _ (f : ℕ → ℤ) where
         let e = eqb-false (n % (n - i)) 0 t in
         ap (λ r. sheetFrom f (pos 0) (divisorsIn n i) ++ r) (no-line n i e) ∙ append-nil _ ∙ sym (ap (sheetFrom f (pos 0)) (in-skip n i h e))
   ]
-
-  -- the lines of the first i numbers, written at a buffer's start, none longer than a line may be
-  pub record Lines (n i : ℕ) (before after : List ℕ) (end : ℕ) : Type 0 where
-    pub written : Written before 0 (line * i) (sheetFrom f (pos 0) (divisorsIn n i)) after end
-
-  pub none : (n : ℕ) (b : List ℕ) → Lines n 0 b b 0
-  none n b = record { written = nothing b 0 }
-
-  module _ {n i : ℕ} {b c : List ℕ} {e : ℕ} (l : Lines n i b c e) where
-    pub line-room : i < 60 → most ≤ length b → e + line ≤ length c
-    line-room h r = omega (arith, l .written .whole, l .written .few)
-
-    pub one-more : {d : List ℕ} {g : ℕ} → Adds c e (lineAt f n i) d g → g ≤ e + line → length d ≡ length c → i < n → Lines n (i + 1) b d g
-    one-more a s same h =
-        let w = more (lineAt f n i) line (l .written) a same (omega (arith, a .ends)) in
-        record { written = record { adds = adds-as (w .adds) (lines-next n i h); whole = w .whole; few = omega (arith, w .few) } }
 
 -- the same terms, the same lines
 from-same : (f g : ℕ → ℤ) (a : ℤ) (ds : List ℕ) → ((d : ℕ) → In d ds → f d ≡ g d) → sheetFrom f a ds ≡ sheetFrom g a ds

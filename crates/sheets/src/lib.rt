@@ -1,6 +1,5 @@
 // The worksheet of a word: a line for each divisor of its length, from the largest down, with the divisor's term in document 004's sum for the rank and the
 // running sum; or the one line of a refusal.
-ghost use mathlib.Core.List.{[]};
 ghost use Prim.Native.Nat.{_+_, _≤_, _<_};
 ghost use lib.ListN.{length};
 ghost use Rattle.shape.specs.Shapes.{WordOn};
@@ -50,7 +49,7 @@ fn put_sheet(s: Strip, word: &[u8], out: &mut [u8]) -> usize
     requires { ⌜ WordOn s (now word) × (most ≤ length (now out)) ⌝ }
     ensures { λ r. ⌜ Adds (now (out .entry)) 0 (sheet (s .k) (now (word .entry))) (now (out .exit)) r ⌝ }
 {
-    let sizes = ranks::sizes(s, word);
+    let sizes = ranks::sizes_of(s, word);
     let mut filled = 0;
     let mut i = 0;
     while i < s.n {

@@ -325,7 +325,7 @@ pub record Misread : Type 0 where
       ≡ (0 ∷ 0 ∷ 3 ∷ []) ∷ (0 ∷ 2 ∷ 7 ∷ []) ∷ (1 ∷ 1 ∷ 5 ∷ []) ∷ (1 ∷ 0 ∷ 2 ∷ []) ∷ []
 
 -- The sums of document 004, section 3: Möbius values over the divisors, the rank (Lemma 9) and the number of Lyndon words; the order
--- of summation does not matter, and no running sum is large.
+-- of summation does not matter, so that from n downwards (Example 10) the sum is the same; and no running sum is large.
 pub record Summed : Type 0 where
   pub mobius-sum : (n : ℕ) → 1 ≤ n → running mobius (pos 0) (divisors n) ≡ pick (eqb n 1) (pos 1) (pos 0)
   pub any-order : (f : ℕ → ℤ) (a : ℤ) (ds es : List ℕ) → Once ds → Once es → ((d : ℕ) → In d ds ↔ In d es) → running f a ds ≡ running f a es

@@ -7,8 +7,8 @@ use Rattle.ranks.proofs.Floored.{floored-sum}
 use Rattle.ranks.proofs.of_word.Statement.{statement}
 use Rattle.ranks.proofs.of_word.Tie as tie
 
-sizes-requires : tie.Need-sizes-requires
-sizes-requires c κs = search needs
+sizes-of-requires : tie.Need-sizes-of-requires
+sizes-of-requires c κs = search needs
 
 slice-aggregate-quotient : tie.Need-slice-aggregate-quotient
 slice-aggregate-quotient c = search needs
@@ -17,13 +17,13 @@ quotient-requires : tie.Need-quotient-requires
 quotient-requires c κs =
     let at = c .before in
     let s = at .before .before in
-    (sized-summable (limits (s .pre .shaped)) (at .sizes .ensures), (_, floored-sum (s .pre) (at .sizes .ensures)))
+    (sized-summable (limits (s .pre .shaped)) (at .sizes-of .ensures), (_, floored-sum (s .pre) (at .sizes-of .ensures)))
 
 returns : tie.Need-returns
 returns c =
     let at = c .before .before in
     let s = at .before .before in
-    only (s .args .s .n) (limits (s .pre .shaped) .some) (c .quotient .ensures) (floored-sum (s .pre) (at .sizes .ensures))
+    only (s .args .s .n) (limits (s .pre .shaped) .some) (c .quotient .ensures) (floored-sum (s .pre) (at .sizes-of .ensures))
 
 pub of-word-spec : {M : Type 1} → statement M
-of-word-spec = tie.close (tie.spec sizes-requires slice-aggregate-quotient quotient-requires returns)
+of-word-spec = tie.close (tie.spec sizes-of-requires slice-aggregate-quotient quotient-requires returns)

@@ -1,4 +1,4 @@
--- `ranks::sizes`: the word is copied and lowered to the largest necklace not above it, whose sizes of CS one table gives.
+-- `ranks::sizes_of`: the word is copied and lowered to the largest necklace not above it, whose sizes of CS one table gives.
 use mathlib.Core.Path.{_≡_, refl, sym, _∙_, ap, subst}
 use native.Mathlib.Omega.{arith}
 use lib.ListN.{replicate}
@@ -10,8 +10,8 @@ use Rattle.shape.proofs.Limits.{limits}
 use Rattle.automaton.specs.Tables.{cells, Counted, Sized}
 use Rattle.ranks.proofs.Shapes.{counted}
 use Rattle.ranks.proofs.Floored.{copied, lettered, floored}
-use Rattle.ranks.proofs.sizes.Statement.{statement}
-use Rattle.ranks.proofs.sizes.Tie as tie
+use Rattle.ranks.proofs.sizes_of.Statement.{statement}
+use Rattle.ranks.proofs.sizes_of.Tie as tie
 
 -- the word is no longer than the buffer
 array-borrow-prefix-room : tie.Need-array-borrow-prefix-room
@@ -53,5 +53,5 @@ returns c =
     let s = start (lowered .before .before .before .before) in
     subst (λ v. Sized (s .args .s .k) v (sized .sizes .result)) (low lowered) (sized .sizes .ensures .0)
 
-pub sizes-spec : {M : Type 1} → statement M
-sizes-spec = tie.close (tie.spec array-borrow-prefix-room slice-aggregate-v copy-requires floor-requires slice-aggregate-sizes sizes-requires returns)
+pub sizes-of-spec : {M : Type 1} → statement M
+sizes-of-spec = tie.close (tie.spec array-borrow-prefix-room slice-aggregate-v copy-requires floor-requires slice-aggregate-sizes sizes-requires returns)
