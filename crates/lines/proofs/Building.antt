@@ -3,12 +3,10 @@ use mathlib.Core.Path.{_≡_, refl, _∙_}
 use mathlib.Core.List.{List, [], _∷_, _++_}
 use Prim.Native.Nat.{ℕ, _+_, _*_, _^_, _≤_, _<_}
 use native.Mathlib.Omega.{arith}
-use lib.IntN.{ℤ, natAbs}
 use lib.ListN.{length, length-append}
-use Rattle.texts.specs.Texts.{decimal, signed, Adds}
+use Rattle.texts.specs.Texts.{decimal, Adds}
 use Rattle.texts.proofs.Adding.{adds-none, adds-as, adds-more}
 use Rattle.texts.proofs.Decimals.{decimal-fits}
-use Rattle.texts.proofs.Signs.{signed-fits}
 use Rattle.lines.specs.Lines.{line}
 
 -- a text of at most m bytes, added behind the first `at` bytes
@@ -30,29 +28,26 @@ more y l w a same h =
 abbrev pub spaced : List ℕ → ℕ → List ℕ
 spaced text v = text ++ (decimal v ++ (32 ∷ []))
 
--- a number and the byte behind it are at most 21 bytes
-pub more-number : {b c d : List ℕ} {at e f m : ℕ} {x : List ℕ} (v y : ℕ) → v < 2 ^ 64 → Written b at m x c e → Adds c e (decimal v ++ (y ∷ [])) d f
-    → length d ≡ length c → Written b at (m + 21) (x ++ (decimal v ++ (y ∷ []))) d f
-more-number v y h w a same =
-    more (decimal v ++ (y ∷ [])) 21 w a same (omega (arith, length-append (decimal v) (y ∷ []), decimal-fits v h))
+-- a field of at most 20 bytes, as any number is, and the byte behind it
+pub more-field : {b c d : List ℕ} {at e f m : ℕ} {x : List ℕ} (y : List ℕ) (z : ℕ) → length y ≤ 20 → Written b at m x c e → Adds c e (y ++ (z ∷ [])) d f
+    → length d ≡ length c → Written b at (m + 21) (x ++ (y ++ (z ∷ []))) d f
+more-field y z h w a same = more (y ++ (z ∷ [])) 21 w a same (omega (arith, length-append y (z ∷ [])))
+
+pub more-number : {b c d : List ℕ} {at e f m : ℕ} {x : List ℕ} (v z : ℕ) → v < 2 ^ 64 → Written b at m x c e → Adds c e (decimal v ++ (z ∷ [])) d f
+    → length d ≡ length c → Written b at (m + 21) (x ++ (decimal v ++ (z ∷ []))) d f
+more-number v z h = more-field (decimal v) z (decimal-fits v h)
 
 -- where a line has room, so has the next text of it
 pub room : {b c : List ℕ} {at e m : ℕ} {x : List ℕ} (l : ℕ) → Written b at m x c e → m + l ≤ line → at + line ≤ length b → e + l ≤ length c
 room l w f r = omega (arith, w .whole, w .few)
 
+pub field-room : {b c : List ℕ} {at e m : ℕ} {x : List ℕ} (y : List ℕ) → length y ≤ 20 → Written b at m x c e → m + 21 ≤ line → at + line ≤ length b
+    → e + length y < length c
+field-room y h w f r = omega (arith, room 21 w f r)
+
 pub number-room : {b c : List ℕ} {at e m : ℕ} {x : List ℕ} (v : ℕ) → v < 2 ^ 64 → Written b at m x c e → m + 21 ≤ line → at + line ≤ length b
     → e + length (decimal v) < length c
-number-room v h w f r = omega (arith, decimal-fits v h, room 21 w f r)
-
--- a signed number and the byte behind it are so too
-pub more-signed : {b c d : List ℕ} {at e f m : ℕ} {x : List ℕ} (v : ℤ) (y : ℕ) → natAbs v < 2 ^ 63 → Written b at m x c e → Adds c e (signed v ++ (y ∷ [])) d f
-    → length d ≡ length c → Written b at (m + 21) (x ++ (signed v ++ (y ∷ []))) d f
-more-signed v y h w a same =
-    more (signed v ++ (y ∷ [])) 21 w a same (omega (arith, length-append (signed v) (y ∷ []), signed-fits v h))
-
-pub signed-room : {b c : List ℕ} {at e m : ℕ} {x : List ℕ} (v : ℤ) → natAbs v < 2 ^ 63 → Written b at m x c e → m + 21 ≤ line → at + line ≤ length b
-    → e + length (signed v) < length c
-signed-room v h w f r = omega (arith, signed-fits v h, room 21 w f r)
+number-room v h = field-room (decimal v) (decimal-fits v h)
 
 -- lines one behind the other: where there is room for l of them and fewer stand there, so is there for the next; and with it there is one more
 pub next-room : {b c : List ℕ} {at e : ℕ} {x : List ℕ} (i l : ℕ) → Written b at (line * i) x c e → i < l → at + line * l ≤ length b → e + line ≤ length c

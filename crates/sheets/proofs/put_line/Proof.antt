@@ -13,7 +13,8 @@ use Rattle.moebius.specs.Summands.{summand}
 use Rattle.moebius.proofs.Passed.{entry-small, term-range, sum-range}
 use Rattle.texts.specs.Texts.{decimal, signed}
 use Rattle.texts.proofs.Adding.{adds-none, adds-as}
-use Rattle.lines.proofs.Building.{Written, nothing, more-number, more-signed, number-room, signed-room}
+use Rattle.texts.proofs.Signs.{signed-fits}
+use Rattle.lines.proofs.Building.{Written, nothing, more-field, field-room, more-number, number-room}
 use Rattle.sheets.specs.Worksheets.{sheetLine}
 use Rattle.sheets.proofs.Rows.{three, divisor-line, no-line}
 use Rattle.sheets.proofs.put_line.Statement.{statement}
@@ -81,7 +82,7 @@ put-signed-requires : tie.Need-put-signed-requires
 put-signed-requires c κs =
     let at = c .before .before .before in
     let (_, small) = the-term (reckoned at) in
-    (small, signed-room (termOf (reckoned at)) small (divisor at) (omega arith) (start (reckoned at) .pre .2))
+    (small, field-room (signed (termOf (reckoned at))) (signed-fits (termOf (reckoned at)) small) (divisor at) (omega arith) (start (reckoned at) .pre .2))
 
 -- the term is written
 abbrev parted : tie.After-put-signed → tie.After-put-number
@@ -89,13 +90,13 @@ parted c = c .before .before .before .before
 
 both : (c : tie.After-put-signed) → let at = reckoned (parted c) in let a = start at .args in
     Written (a .out .now) (a .at) 42 (([] ++ (decimal (a .n - a .i) ++ (32 ∷ []))) ++ (signed (termOf at) ++ (32 ∷ []))) (c .put-signed .last .1 .1 .0) (c .put-signed .result)
-both c = let at = reckoned (parted c) in more-signed (termOf at) 32 (the-term at .1) (divisor (parted c)) (c .put-signed .ensures) (c .put-signed .kept .1 .1 .0)
+both c = let at = reckoned (parted c) in more-field (signed (termOf at)) 32 (signed-fits (termOf at) (the-term at .1)) (divisor (parted c)) (c .put-signed .ensures) (c .put-signed .kept .1 .1 .0)
 
 put-signed-requires-2 : tie.Need-put-signed-requires-2
 put-signed-requires-2 c κs =
     let at = c .before .before .before in
     let (_, small) = the-sum (reckoned (parted at)) in
-    (small, signed-room (sumOf (reckoned (parted at))) small (both at) (omega arith) (start (reckoned (parted at)) .pre .2))
+    (small, field-room (signed (sumOf (reckoned (parted at)))) (signed-fits (sumOf (reckoned (parted at))) small) (both at) (omega arith) (start (reckoned (parted at)) .pre .2))
 
 same-length : tie.Need-same-length
 same-length c = search needs
@@ -106,7 +107,7 @@ returns-2 c =
     let two = put .before .before .before .before in
     let at = reckoned (parted two) in
     let a = start at .args in
-    let w = more-signed (sumOf at) 10 (the-sum at .1) (both two) (put .put-signed2 .ensures) (put .put-signed2 .kept .1 .1 .0) in
+    let w = more-field (signed (sumOf at)) 10 (signed-fits (sumOf at) (the-sum at .1)) (both two) (put .put-signed2 .ensures) (put .put-signed2 .kept .1 .1 .0) in
     let d = a .n - a .i in
     let text = three (decimal d) (signed (termOf at)) (signed (sumOf at)) ∙ ap₂ (sheetLine d) (the-term at .0) (the-sum at .0) ∙ sym (divisor-line (summand (a .n) (a .sizes .now)) (a .n) (a .i) (at .before .before .if1 .left)) in
     (adds-as (w .adds) text, omega (arith, w .few))
