@@ -46,8 +46,7 @@ sheets =
       lowered = lowered;
       last-line = last-line;
       zeros = refl;
-      example-10 = refl;
-      lowered-to-it = refl;
+      example-10 = (refl, refl);
       no-term = refl;
       refused = (refl, refl, refl, refl, refl);
     }

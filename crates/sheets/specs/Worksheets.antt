@@ -60,10 +60,10 @@ pub record Sheets : Type 0 where
   -- 000000 over two letters, byte by byte: 6 1 1, 3 -1 0, 2 -1 -1, 1 1 0
   pub zeros : worksheet (2 ∷ 6 ∷ 0 ∷ 0 ∷ 0 ∷ 0 ∷ 0 ∷ 0 ∷ [])
       ≡ (54 ∷ 32 ∷ 49 ∷ 32 ∷ 49 ∷ 10 ∷ []) ++ ((51 ∷ 32 ∷ 45 ∷ 49 ∷ 32 ∷ 48 ∷ 10 ∷ []) ++ ((50 ∷ 32 ∷ 45 ∷ 49 ∷ 32 ∷ 45 ∷ 49 ∷ 10 ∷ []) ++ (49 ∷ 32 ∷ 49 ∷ 32 ∷ 48 ∷ 10 ∷ [])))
-  -- document 004's Example 10, and a word that is lowered to it
-  pub example-10 : worksheet (2 ∷ 6 ∷ 0 ∷ 1 ∷ 0 ∷ 1 ∷ 1 ∷ 1 ∷ [])
-      ≡ sheetLine 6 (pos 54) (pos 54) ++ (sheetLine 3 (negsuc 3) (pos 50) ++ (sheetLine 2 (negsuc 2) (pos 47) ++ sheetLine 1 (pos 1) (pos 48)))
-  pub lowered-to-it : worksheet (2 ∷ 6 ∷ 0 ∷ 1 ∷ 1 ∷ 0 ∷ 1 ∷ 0 ∷ []) ≡ worksheet (2 ∷ 6 ∷ 0 ∷ 1 ∷ 0 ∷ 1 ∷ 1 ∷ 1 ∷ [])
+  -- document 004's Example 10, 010111, and 011010, which is lowered to it
+  pub example-10 :
+      let lines = sheetLine 6 (pos 54) (pos 54) ++ (sheetLine 3 (negsuc 3) (pos 50) ++ (sheetLine 2 (negsuc 2) (pos 47) ++ sheetLine 1 (pos 1) (pos 48))) in
+      (worksheet (2 ∷ 6 ∷ 0 ∷ 1 ∷ 0 ∷ 1 ∷ 1 ∷ 1 ∷ []) ≡ lines) × (worksheet (2 ∷ 6 ∷ 0 ∷ 1 ∷ 1 ∷ 0 ∷ 1 ∷ 0 ∷ []) ≡ lines)
   -- 0111: a divisor whose term is 0 has its line
   pub no-term : worksheet (2 ∷ 4 ∷ 0 ∷ 1 ∷ 1 ∷ 1 ∷ []) ≡ sheetLine 4 (pos 15) (pos 15) ++ (sheetLine 2 (negsuc 2) (pos 12) ++ sheetLine 1 (pos 0) (pos 12))
   -- no k, no n, n = 0, a word of another length, a mark that is none

@@ -6,8 +6,8 @@ use mathlib.Core.List.{List, [], _∷_, _++_, reverse, reverse-append, append-ni
 use lib.IntN.{ℤ, pos}
 use Prim.Native.Nat.{ℕ, zero, suc, _+_, _-_, _*_, _%_, _≤_, _<_}
 use native.Mathlib.Omega.{arith}
-use lib.Dec.{eqb}
 use native.Mathlib.Numerals.{add-one}
+use lib.Dec.{eqb}
 use lib.ListN.{length, take}
 use lib.Seq.{take-all}
 use borrow.Author.Tests.{eq-eqb, ne-eqb}
@@ -75,6 +75,11 @@ in-once n l = keep-once (divisor n) (take l (down n)) (take-once l (down n) (dow
 pub in-part : (n l : ℕ) → 1 ≤ n → (d : ℕ) → In d (divisorsIn n l) → In d (divisors n)
 in-part n l s d i = in-divisors s (test-div d n (keep-in (divisor n) (take l (down n)) i .1))
 
+-- the sum with one more at the end
+pub running-last : (f : ℕ → ℤ) (a : ℤ) (ds : List ℕ) (d : ℕ) → running f a (ds ++ (d ∷ [])) ≡ plus (running f a ds) (f d)
+running-last f a [] d = refl
+running-last f a (c ∷ ds) d = running-last f (plus a (f c)) ds d
+
 -- the sum downwards is the sum upwards
 pub downwards : (f : ℕ → ℤ) (a : ℤ) (n : ℕ) → running f a (divisorsDown n) ≡ running f a (divisors n)
 downwards f a n = any-order f a (divisorsDown n) (divisors n) (keep-once (divisor n) (down n) (down-once n)) (divisors-once n) λ d. (out d, into d)
@@ -98,11 +103,6 @@ worksheet-total k w m s =
     let r = floor-is k w m in
     let total : pos (length w * rank k v) ≡ running (rankTerm k v) (pos 0) (divisors (length w)) = subst (λ n. pos (n * rank k v) ≡ running (rankTerm k v) (pos 0) (divisors n)) (r .0) (by-divisors k v (omega (arith, r .0, s)) (r .2)) in
     downwards (rankTerm k v) (pos 0) (length w) ∙ sym total ∙ ap (λ x. pos (length w * x)) (floor-rank k w m)
-
--- a divisor more at the end
-pub running-last : (f : ℕ → ℤ) (a : ℤ) (ds : List ℕ) (d : ℕ) → running f a (ds ++ (d ∷ [])) ≡ plus (running f a ds) (f d)
-running-last f a [] d = refl
-running-last f a (c ∷ ds) d = running-last f (plus a (f c)) ds d
 
 pub summed : Summed
 summed =
