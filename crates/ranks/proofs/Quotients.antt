@@ -1,5 +1,6 @@
 -- The signed sum is n times a rank or a count: its cast to an unsigned number, and the quotient.
-use mathlib.Core.Path.{_≡_, refl, sym, _∙_, ap}
+use mathlib.Core.Path.{_≡_, refl, sym, _∙_, ap, ap₂, subst}
+use mathlib.Core.Bool.{true}
 use mathlib.Core.List.{List, [], _∷_}
 use lib.IntN.{ℤ, pos, natAbs}
 use lib.Signed.{nonNeg}
@@ -13,6 +14,7 @@ use mir.ValLaws.{toZ-ofZ}
 use lib.ListN.{length}
 use Rattle.theory.specs.Words.{rank, howMany}
 use Rattle.theory.specs.Lists.{In, here, there}
+use Rattle.theory.specs.Rings.{divides}
 use Rattle.theory.specs.Sums.{mobius, scaled, plus, divisors, running, rankTerm, countTerm}
 use Rattle.theory.proofs.Divisors.{divisors-in, divisors-divide}
 use Rattle.theory.specs.Prenecklaces.{Prenecklace}
@@ -26,12 +28,17 @@ running-ext f g a [] h = refl
 running-ext f g a (d ∷ ds) h =
     ap (λ x. running f (plus a x) ds) (h d (here refl)) ∙ running-ext f g (plus a (g d)) ds (λ e i. h e (there i))
 
--- with the sizes of CS of a prenecklace, and with the powers of k
+-- from the sizes of CS the terms are document 004's
+pub summand-is : (k n : ℕ) (w t : List ℕ) → length w ≡ n → Sized k w t → (d : ℕ) → In d (divisors n) → summand n t d ≡ rankTerm k w d
+summand-is k n w t e h d i =
+    ap₂ (λ m c. scaled (mobius (m / d)) c) (sym e) (h .entry d (subst (λ m. divides d m ≡ true) (sym e) (divisors-divide n i)))
+
+-- the sum with the sizes of CS of a prenecklace, and with the powers of k
 pub rank-sum : (k n : ℕ) (w t : List ℕ) → length w ≡ n → 1 ≤ n → Prenecklace w → Sized k w t → total n t ≡ pos (n * rank k w)
 rank-sum k n w t e s p h =
     downwards (summand n t) (pos 0) n
-    ∙ ap (λ m. running (summand m t) (pos 0) (divisors m)) (sym e)
-    ∙ running-ext _ (rankTerm k w) (pos 0) (divisors (length w)) (λ d i. ap (scaled (mobius (length w / d))) (h .entry d (divisors-divide (length w) i)))
+    ∙ running-ext (summand n t) (rankTerm k w) (pos 0) (divisors n) (summand-is k n w t e h)
+    ∙ ap (λ m. running (rankTerm k w) (pos 0) (divisors m)) (sym e)
     ∙ sym (by-pre k w (omega (arith, e, s)) p) ∙ ap (λ m. pos (m * rank k w)) e
 
 pub count-total : (k n : ℕ) (t : List ℕ) → 1 ≤ n → Powers k n t → total n t ≡ pos (n * howMany k n)

@@ -1,27 +1,24 @@
 -- The lines of a sheet: that of one number, and how they follow each other.
-use mathlib.Core.Path.{_≡_, refl, sym, _∙_, ap, ap₂, subst}
-use mathlib.Core.Bool.{true}
+use mathlib.Core.Path.{_≡_, refl, sym, _∙_, ap}
 use mathlib.Core.List.{List, [], _∷_, _++_, append-assoc, append-nil}
 use mathlib.Core.Logic.{inl, inr}
-use Prim.Native.Nat.{ℕ, _+_, _-_, _/_, _%_, _<_}
+use Prim.Native.Nat.{ℕ, _+_, _-_, _%_, _<_}
 use native.Mathlib.Nat.{le-refl}
 use lib.IntN.{ℤ, pos}
 use lib.Dec.{eqb}
-use lib.ListN.{length}
 use borrow.Author.Tests.{eq-eqb, ne-eqb, eqb-true, eqb-false}
 use Rattle.theory.specs.Words.{pick}
 use Rattle.theory.specs.Lists.{In, here, there}
-use Rattle.theory.specs.Rings.{divides}
-use Rattle.theory.specs.Sums.{mobius, plus, scaled, running, divisorsIn, divisorsDown, rankTerm}
+use Rattle.theory.specs.Sums.{plus, running, divisorsIn, divisorsDown, rankTerm}
 use Rattle.theory.specs.Floors.{necklaceUpTo}
 use Rattle.theory.proofs.Base.{test}
-use Rattle.theory.proofs.Divisors.{divisors-divide}
 use Rattle.theory.proofs.Downwards.{in-more, in-skip, in-all, in-part}
 use Rattle.shape.specs.declared.Strip as DS
 use Rattle.shape.specs.Shapes.{WordOn}
 use Rattle.shape.proofs.Limits.{limits}
 use Rattle.automaton.specs.Tables.{Sized}
 use Rattle.moebius.specs.Summands.{summand}
+use Rattle.ranks.proofs.Quotients.{summand-is}
 use Rattle.ranks.proofs.Floored.{floored}
 use Rattle.texts.specs.Texts.{fields}
 use Rattle.sheets.specs.Worksheets.{sheetLine, sheetFrom, sheet, lineAt}
@@ -72,10 +69,6 @@ pub sized-sheet : {s : DS.Strip} {w t : List ℕ} → WordOn s w → Sized (s .k
 sized-sheet {s} {w} {t} h z =
     let n = s .n in
     let v = necklaceUpTo (s .k) w in
-    let long : length v ≡ n = floored h .0 .long in
-    let term : (d : ℕ) → In d (divisorsIn n n) → summand n t d ≡ rankTerm (s .k) v d =
-    λ d i.
-    let divide = subst (λ m. divides d m ≡ true) (sym long) (divisors-divide n (in-part n n (limits (h .shaped) .some) d i)) in
-    ap₂ (λ m c. scaled (mobius (m / d)) c) (sym long) (z .entry d divide)
-    in
-    from-same (summand n t) (rankTerm (s .k) v) (pos 0) (divisorsIn n n) term ∙ ap (sheetFrom (rankTerm (s .k) v) (pos 0)) (in-all n n (le-refl n) ∙ ap divisorsDown (sym (h .long)))
+    let term : (d : ℕ) → In d (divisorsIn n n) → summand n t d ≡ rankTerm (s .k) v d = λ d i. summand-is (s .k) n v t (floored h .0 .long) z d (in-part n n (limits (h .shaped) .some) d i) in
+    from-same (summand n t) (rankTerm (s .k) v) (pos 0) (divisorsIn n n) term
+    ∙ ap (sheetFrom (rankTerm (s .k) v) (pos 0)) (in-all n n (le-refl n) ∙ ap divisorsDown (sym (h .long)))

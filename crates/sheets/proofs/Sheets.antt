@@ -2,9 +2,7 @@
 use mathlib.Core.Path.{_≡_, refl, sym, _∙_, ap, ap₂}
 use mathlib.Core.Bool.{true}
 use mathlib.Core.List.{List, [], _∷_, _++_}
-use Prim.Native.Nat.{ℕ, _+_, _-_, _*_, _%_, _≤_}
-use native.Mathlib.Omega.{arith}
-use native.Mathlib.Nat.{le-refl, mod-one}
+use Prim.Native.Nat.{ℕ, _+_, _-_, _*_, _≤_}
 use lib.IntN.{pos}
 use lib.ListN.{length}
 use Rattle.theory.specs.Words.{pick, rank, marksOk}
@@ -12,7 +10,7 @@ use Rattle.theory.specs.Sums.{running, divisorsIn, divisorsDown, rankTerm}
 use Rattle.theory.specs.Floors.{necklaceUpTo, floorFrom}
 use Rattle.theory.proofs.Order.{eq-same}
 use Rattle.theory.proofs.Floors.{floor-is, floor-rule}
-use Rattle.theory.proofs.Downwards.{in-more, in-all, worksheet-total}
+use Rattle.theory.proofs.Downwards.{one-last, worksheet-total}
 use Rattle.sheets.specs.Worksheets.{sheetLine, sheetFrom, sheet, Sheets}
 use Rattle.sheets.proofs.Rows.{from-last}
 
@@ -22,13 +20,6 @@ lowered k w m =
     let r = floor-is k w m in
     let own : necklaceUpTo k v ≡ v = floor-rule k v (r .1) ∙ ap (λ b. pick b v (floorFrom k v (length v))) (eq-same (r .2)) in
     ap₂ (λ u n. sheetFrom (rankTerm k u) (pos 0) (divisorsDown n)) own (r .0)
-
--- 1 is the last divisor
-one-last : (n : ℕ) → 1 ≤ n → divisorsDown n ≡ divisorsIn n (n - 1) ++ (1 ∷ [])
-one-last n s =
-    let e : n - 1 + 1 ≡ n = omega arith in
-    let f : n - (n - 1) ≡ 1 = omega arith in
-    sym (in-all n n (le-refl n)) ∙ ap (divisorsIn n) (sym e) ∙ in-more n (n - 1) (omega arith) (ap (λ d. n % d) f ∙ mod-one n) ∙ ap (λ d. divisorsIn n (n - 1) ++ (d ∷ [])) f
 
 last-line : (k : ℕ) (w : List ℕ) → marksOk k w ≡ true → 1 ≤ length w
     → (x : List ℕ) × (sheet k w ≡ x ++ sheetLine 1 (rankTerm k (necklaceUpTo k w) 1) (pos (length w * rank k w)))

@@ -6,6 +6,7 @@ use mathlib.Core.List.{List, [], _∷_, _++_, reverse, reverse-append, append-ni
 use lib.IntN.{ℤ, pos}
 use Prim.Native.Nat.{ℕ, zero, suc, _+_, _-_, _*_, _%_, _≤_, _<_}
 use native.Mathlib.Omega.{arith}
+use native.Mathlib.Nat.{le-refl, mod-one}
 use native.Mathlib.Numerals.{add-one}
 use lib.Dec.{eqb}
 use lib.ListN.{length, take}
@@ -67,6 +68,14 @@ in-skip n l h e = in-next n l h ∙ ap (λ b. divisorsIn n l ++ (pick b ((n - l)
 
 pub in-all : (n l : ℕ) → n ≤ l → divisorsIn n l ≡ divisorsDown n
 in-all n l h = ap (keep (divisor n)) (take-all l (down n) (omega (arith, down-length n)))
+
+-- the last of all is 1
+pub one-last : (n : ℕ) → 1 ≤ n → divisorsDown n ≡ divisorsIn n (n - 1) ++ (1 ∷ [])
+one-last n s =
+    let e : n - 1 + 1 ≡ n = omega arith in
+    let f : n - (n - 1) ≡ 1 = omega arith in
+    sym (in-all n n (le-refl n)) ∙ ap (divisorsIn n) (sym e) ∙ in-more n (n - 1) (omega arith) (ap (λ d. n % d) f ∙ mod-one n)
+    ∙ ap (λ d. divisorsIn n (n - 1) ++ (d ∷ [])) f
 
 -- each of them once, and all are divisors
 pub in-once : (n l : ℕ) → Once (divisorsIn n l)
