@@ -1,4 +1,5 @@
 -- The promise, whole.
+use mathlib.Core.Path.{sym, _∙_}
 use Rattle.theory.proofs.Theorems.{theorems}
 use Rattle.pbm.proofs.Pictures.{pictures}
 use Rattle.listing.proofs.Alike.{same-listing}
@@ -10,7 +11,7 @@ use Rattle.demands.proofs.Words.{lyndon, rotation, turn, root-told, cou
 use Rattle.demands.proofs.Marks.{marked, placed, place-back, window-back, printed}
 use Rattle.demands.proofs.Pictures.{picture-back, picture-both, picture-by-rows}
 use Rattle.demands.proofs.Walking.{started, not-started, stands, step, not-stepped, undone, walk, both-ways}
-use Rattle.demands.proofs.Laying.{laid, laid-across, laid-only, smudged, smudged-only, smudged-plain}
+use Rattle.demands.proofs.Laying.{laid, laid-across, laid-only, smudged, smudged-only, smudged-lowest, smudged-bytes, smudged-plain}
 use Rattle.demands.proofs.Misread.{misread-told, misread-answers, misread-both}
 
 pub demands : Demands
@@ -55,7 +56,9 @@ demands = record {
   laid-only = laid-only;
   smudged = smudged;
   smudged-only = smudged-only;
-  smudged-plain = λ s w t t′ r full e. smudged-plain s w t t′ r e full;
+  smudged-lowest = λ s w t t′ r q e z. smudged-lowest s w t t′ r e z q;
+  smudged-same = λ s w t t′ u u′ r q e f z y. smudged-bytes s w t t′ r e z ∙ sym (smudged-bytes s w u u′ q f y);
+  smudged-plain = smudged-plain;
   misread = misread-told;
   misread-answers = misread-answers;
   misread-both = misread-both;

@@ -2,29 +2,28 @@
 use mathlib.Core.Path.{_≡_, refl, sym, _∙_, ap, ap₂, subst, subst₂}
 use mathlib.Core.Bool.{true, not}
 use mathlib.Core.List.{List, []}
-use Prim.Native.Nat.{ℕ, suc, _+_, _-_, _*_, _^_, _≤_, _<_}
+use Prim.Native.Nat.{ℕ, zero, suc, _+_, _-_, _*_, _^_, _≤_, _<_}
 use native.Mathlib.Omega.{arith}
-use native.Mathlib.Decide.{ℕ-discrete}
 use lib.Dec.{eqb}
-use lib.ListN.{length, drop}
+use lib.ListN.{length, take, drop}
+use borrow.Author.Tests.{ne-eqb}
 use Rattle.theory.specs.Words.{pick, keep, marksOk}
 use Rattle.theory.specs.Strips.{window, placeOf}
 use Rattle.theory.specs.Plans.{be, shades, marks, sectionCount, sections, welded, nthS, planFault, railOf, layingAt, laidAt, distanceAt, lookupFault, layingOf, distanceOf}
 use Rattle.theory.specs.Theorems.{Lies}
-use Rattle.theory.specs.Erasures.{unread, agrees, smudgedFault}
+use Rattle.theory.specs.Erasures.{unread, agrees, lowest, smudgedFault}
 use Rattle.theory.proofs.Rings.{one-place}
 use Rattle.theory.proofs.Faults.{first-none, when-none, word-fine}
 use Rattle.theory.proofs.Records.{old, new, size-of, own-rail, written-rail}
 use Rattle.theory.proofs.Laying as theory
-use Rattle.theory.proofs.Erasures.{fitting-in, in-fitting, fits-fine, fault-full, fitting-full}
+use Rattle.theory.proofs.Erasures.{fitting-in, in-fitting, lowest-least, lowest-fits, fits-fine, fault-full, fitting-full}
 use Rattle.buffers.specs.Buffers.{over}
 use Rattle.numbers.proofs.Numbers.{put-read, be-small}
 use Rattle.shape.proofs.Limits.{admitted-limits}
 use Rattle.calls.specs.Answers.{Into}
-use Rattle.calls.proofs.Answers.{into-given}
 use Rattle.lookups.specs.Says.{answerAt, answerSize, LookupSays, SmudgedSays}
 use Rattle.demands.specs.Demands.{Rail-told, Section-told}
-use Rattle.demands.proofs.Trays.{into-fine, answered, answers, smudged-picked, smudged-refusal, smudged-answers}
+use Rattle.demands.proofs.Trays.{into-fine, answered}
 
 -- a rail fits in its two bytes: one that was read, or a section's number
 rail-small : (s : List ℕ) (i : ℕ) → planFault s ≡ 0 → i < sectionCount s → marksOk 256 s ≡ true → railOf s i < 256 ^ 2
@@ -78,11 +77,10 @@ pub laid-only : (s w t t′ : List ℕ) (r : ℕ) → LookupSays s w t t′ r �
     × (drop answerSize t′ ≡ drop answerSize t)
 laid-only s w t t′ r e z =
     let p = placeOf (shades s) (marks s) w in
-    let (fine, _, over-it) = answered (lookupFault s w) (pick (eqb (lookupFault s w) 0) (answerAt s p) []) t e z in
+    let (fine, tray) = answered (lookupFault s w) (answerAt s p) t e z in
     let (good, word, looked) = theory.lookup-good s w fine in
     let there : laidAt s p ≡ true = ap not (when-none (eqb (layingOf s w) 0) 9 (λ y. omega arith) looked) in
     let (inside, _, lies) = theory.laid-only s w fine in
-    let tray : t′ ≡ over (answerAt s p) t = over-it ∙ ap (λ f. over (pick (eqb f 0) (answerAt s p) []) t) fine in
     let number = section-back s p good there t tray in
     let place = place-back s p good there t tray in
     let lim = admitted-limits (shades s) (marks s) (theory.plan-good s good .1) in
@@ -99,43 +97,59 @@ laid-only s w t t′ r e z =
 pub smudged : (s w : List ℕ) (p : ℕ) (t t′ : List ℕ) (r : ℕ) → planFault s ≡ 0 → p < shades s ^ marks s → laidAt s p ≡ true
     → agrees w (window (shades s) (marks s) p) ≡ true → length (keep unread w) ≤ 2 → answerSize ≤ length t → SmudgedSays s w t t′ r → r ≡ 0
 smudged s w p t t′ r good h laid agree few room e =
-    let x = smudged-picked s w t t′ r e (fits-fine s w good (in-fitting s w h laid agree) few) in
-    into-fine 0 (answerAt s (x .place)) t refl room (x .answer) .0
+    into-fine (smudgedFault s w) (answerAt s (lowest s w)) t (fits-fine s w good (in-fitting s w h laid agree) few) room e .0
 
-module _ (s w t t′ : List ℕ) (r : ℕ) (e : SmudgedSays s w t t′ r) where
-  -- and what is answered agrees
-  pub smudged-only : r ≡ 0
-      → let i = be 0 2 t′ in
+-- what is answered is told of the lowest place
+module _ (s w t t′ : List ℕ) (r : ℕ) (e : SmudgedSays s w t t′ r) (z : r ≡ 0) where
+  fine : smudgedFault s w ≡ 0
+  fine = answered (smudgedFault s w) (answerAt s (lowest s w)) t e z .0
+
+  tray : t′ ≡ over (answerAt s (lowest s w)) t
+  tray = answered (smudgedFault s w) (answerAt s (lowest s w)) t e z .1
+
+  good : planFault s ≡ 0
+  good = first-none (planFault s) _ fine .0
+
+  there : laidAt s (lowest s w) ≡ true
+  there = fitting-in s w (lowest-fits s w fine) .1
+
+  place : nthS (sections s) (be 0 2 t′) .offset + be 2 8 t′ ≡ lowest s w
+  place = place-back s (lowest s w) good there t tray
+
+  -- the window there agrees
+  pub smudged-only : let i = be 0 2 t′ in
       let p = nthS (sections s) i .offset + be 2 8 t′ in
       (i < sectionCount s) × (layingAt s p ≡ suc i) × (agrees w (window (shades s) (marks s) p) ≡ true) × Rail-told s i t′
       × (drop answerSize t′ ≡ drop answerSize t)
-  smudged-only z =
-      let fine : smudgedFault s w ≡ 0 = elim (smudged-answers s w t t′ r e) [ answers b _ x ↦ answered (smudgedFault s w) (pick (eqb (smudgedFault s w) 0) b []) t x z .0 ] in
-      let x = smudged-picked s w t t′ r e fine in
-      let p = x .place in
-      let (_, there, agree) = fitting-in s w (x .fits) in
-      let good = first-none (planFault s) _ fine .0 in
-      let (_, _, tray) = answered 0 (answerAt s p) t (x .answer) z in
+  smudged-only =
+      let p = lowest s w in
       let number = section-back s p good there t tray in
       let few = theory.laid-at s p good there .0 in
-      let place = place-back s p good there t tray in
       let some = theory.laid-some s p there in (
         omega (arith, number, few),
         ap (layingAt s) place ∙ omega (arith, number, some),
-        ap (λ q. agrees w (window (shades s) (marks s) q)) place ∙ agree,
+        ap (λ q. agrees w (window (shades s) (marks s) q)) place ∙ fitting-in s w (lowest-fits s w fine) .2,
         rail-back s p good there t tray,
         ap (drop answerSize) tray,
       )
 
-  -- read in full, it is answered as by the plain lookup
-  pub smudged-plain : keep unread w ≡ [] → LookupSays s w t t′ r
-  smudged-plain full =
-      let answer = answerAt s (placeOf (shades s) (marks s) w) in
-      let same = fault-full s w full in
-      elim (ℕ-discrete (smudgedFault s w) 0) [
-        | yes fine ↦
-            let x = smudged-picked s w t t′ r e fine in
-            let own = fitting-full s w full (first-none (planFault s) _ fine .0) (x .fits) in
-            into-given t (sym same ∙ fine) (ap (answerAt s) own) (x .answer)
-        | no some ↦ subst (λ f. Into f (pick (eqb f 0) answer []) t t′ r) same (smudged-refusal s w t t′ r e some answer)
-      ]
+  -- and none that does stands lower
+  pub smudged-lowest : (q : ℕ) → q < shades s ^ marks s → laidAt s q ≡ true → agrees w (window (shades s) (marks s) q) ≡ true
+      → nthS (sections s) (be 0 2 t′) .offset + be 2 8 t′ ≤ q
+  smudged-lowest q h laid agree = omega (arith, place, lowest-least s w (in-fitting s w h laid agree))
+
+  pub smudged-bytes : take answerSize t′ ≡ answerAt s (lowest s w)
+  smudged-bytes = ap (take answerSize) tray
+
+-- an answer counts only where there is no fault
+same-answer : (f : ℕ) {b c : List ℕ} → (f ≡ 0 → b ≡ c) → pick (eqb f 0) b [] ≡ pick (eqb f 0) c []
+same-answer zero h = h refl
+same-answer (suc f) h = rw (ne-eqb (suc f) 0 (λ z. omega arith))
+
+-- read in full, a window is answered as by the plain lookup
+pub smudged-plain : (s w t t′ : List ℕ) (r : ℕ) → keep unread w ≡ [] → SmudgedSays s w t t′ r → LookupSays s w t t′ r
+smudged-plain s w t t′ r full e =
+    let f = smudgedFault s w in
+    let own : f ≡ 0 → lowest s w ≡ placeOf (shades s) (marks s) w = λ fine. fitting-full s w full (first-none (planFault s) _ fine .0) (lowest-fits s w fine) in
+    let answer : Into f (pick (eqb f 0) (answerAt s (placeOf (shades s) (marks s) w)) []) t t′ r = subst (λ b. Into f b t t′ r) (same-answer f (λ fine. ap (answerAt s) (own fine))) e in
+    subst (λ g. Into g (pick (eqb g 0) (answerAt s (placeOf (shades s) (marks s) w)) []) t t′ r) (fault-full s w full) answer

@@ -107,9 +107,7 @@ module _ (s w : List ℕ) (fine : lookupFault s w ≡ 0) where
 
 pub misread-told : (s w t t′ : List ℕ) (r : DV.Value) → MisreadingsSays s w t t′ r → r .number ≡ 0 → List-told s w t t′ (r .value)
 misread-told s w t t′ r e z =
-    let f = lookupFault s w in
-    let (fine, _, over-it) = answered f (pick (eqb f 0) (entriesOf s w) []) t (e .0) z in
-    let tray : t′ ≡ over (entriesOf s w) t = over-it ∙ ap (λ x. over (pick (eqb x 0) (entriesOf s w) []) t) fine in
+    let (fine, tray) = answered (lookupFault s w) (entriesOf s w) t (e .0) z in
     let value : r .value ≡ length (misread s w) = rw z at e .1 in
     subst (List-told s w t t′) (sym value) (told s w fine t tray)
 
@@ -131,6 +129,6 @@ misread-both s w c c′ t t′ u r q room e f =
   where
     count : Into (lookupFault s w) (pick (eqb (lookupFault s w) 0) (entriesOf s w) []) t u q → q ≡ 0 → r .number ≡ 0 → be 0 8 c′ ≡ r .value
     count list z y =
-        let fine = answered (lookupFault s w) (pick (eqb (lookupFault s w) 0) (entriesOf s w) []) t list z .0 in
+        let (fine, _) = answered (lookupFault s w) (entriesOf s w) t list z in
         let value : r .value ≡ length (misread s w) = rw y at e .1 in
         tray-back (length (misread s w)) c (omega (arith, list-short s w fine)) (rw z at f .1) ∙ sym value

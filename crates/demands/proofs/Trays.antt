@@ -10,10 +10,10 @@ use lib.Dec.{eqb, ltb}
 use lib.ListN.{length, drop}
 use lib.Seq.{drop-append-seam}
 use borrow.Author.Tests.{le-ltb, ltb-false, ne-eqb}
-use Rattle.theory.specs.Words.{pick, pickT, firstOf, when, smallest, leastTurn, wordOf, rank}
+use Rattle.theory.specs.Words.{pick, firstOf, when, smallest, leastTurn, wordOf, rank}
 use Rattle.theory.specs.Strips.{admitted, stripFault, markAt, marksFrom, placeOf, strip}
 use Rattle.theory.specs.Plans.{be, shades, marks, lookupFault}
-use Rattle.theory.specs.Erasures.{smudgedFault}
+use Rattle.theory.specs.Erasures.{lowest, smudgedFault}
 use Rattle.theory.specs.Substitutions.{misread}
 use Rattle.theory.proofs.Base.{test}
 use Rattle.theory.proofs.Necklaces.{smallest-length}
@@ -27,7 +27,7 @@ use Rattle.numbers.proofs.Numbers.{put-read}
 use Rattle.calls.specs.declared.Value as DV
 use Rattle.calls.specs.Answers.{Into, IntoValue, orShort, IntoBoth, Number, ValueIs}
 use Rattle.calls.specs.Refusals.{theWordFault, indexFault, placeFault, pictureFault}
-use Rattle.calls.proofs.Answers.{into-given, number-answer}
+use Rattle.calls.proofs.Answers.{number-answer}
 use Rattle.ranking.proofs.Indexes.{index-range, index-long}
 use Rattle.words.specs.Says.{RotationSays, TurnSays}
 use Rattle.ranking.specs.Says.{RankSays, WordSays}
@@ -35,7 +35,7 @@ use Rattle.marks.specs.Says.{MarkSays, PlaceSays, PrintSays}
 use Rattle.pbm.specs.Pictures.{picture, fileSize}
 use Rattle.pictures.specs.Says.{PictureSays, BothSay}
 use Rattle.pictures.proofs.Framing.{file-long}
-use Rattle.lookups.specs.Says.{answerAt, answerSize, LookupSays, Picked, SmudgedSays}
+use Rattle.lookups.specs.Says.{answerAt, answerSize, LookupSays, SmudgedSays}
 use Rattle.substitutions.proofs.Writing.{entries-long}
 use Rattle.misreadings.specs.Says.{entriesOf, listSize, MisreadingsSays, MisreadingListSays}
 use Rattle.demands.specs.Trays.{Keeps, Trays}
@@ -76,9 +76,9 @@ no-value-beside f v b t t′ r e h = rw (ne-eqb (r .number) 0 h) at (e .1)
 pub small : (k n : ℕ) {v : ℕ} → admitted k n ≡ true → v ≤ k ^ n → v < 2 ^ 64
 small k n a h = omega (arith, admitted-limits k n a .range)
 
--- no number, so no fault and room for the answer
-pub answered : (f : ℕ) (b t : List ℕ) {t′ : List ℕ} {r : ℕ} → Into f b t t′ r → r ≡ 0 → (f ≡ 0) × (length b ≤ length t) × (t′ ≡ over b t)
-answered zero b t {t′} e z = elim (test (ltb (length t) (length b))) [ inl h ↦ absurd (small-tray h) | inr h ↦ (refl, ltb-false (length t) (length b) h, fits h) ]
+-- no number, so no fault, and the answer over the start of the tray
+pub answered : (f : ℕ) (b t : List ℕ) {t′ : List ℕ} {r : ℕ} → Into f (pick (eqb f 0) b []) t t′ r → r ≡ 0 → (f ≡ 0) × (t′ ≡ over b t)
+answered zero b t {t′} e z = elim (test (ltb (length t) (length b))) [ inl h ↦ absurd (small-tray h) | inr h ↦ (refl, fits h) ]
   where
     small-tray : ltb (length t) (length b) ≡ true → ⊥
     small-tray h = let x = rw h at e .0 in omega (arith, x, z)
@@ -166,7 +166,7 @@ picture-answers k n p c h t t′ r e = answers (picture k n p c h) (file-long k 
 value-keeps : (f v : ℕ) (b s s′ t t′ : List ℕ) (r : ℕ) → IntoBoth f v b s s′ t t′ r → Keeps 8 s s′ r
 value-keeps f v b s s′ t t′ r e = elim (ℕ-discrete r 0) [
   | yes z ↦
-      let fine : orShort f s ≡ 0 = answered (orShort f s) (pick (eqb (orShort f s) 0) b []) t (e .0) z .0 in
+      let (fine, _) = answered (orShort f s) b t (e .0) z in
       let room : 8 ≤ length s = ltb-false (length s) 8 (when-none _ 6 (λ y. omega arith) (first-none f _ fine .1)) in
       let is : s′ ≡ over (putBe 8 v) s = rw z at e .1 in
       keeps {f = 0} (answers (putBe 8 v) (λ _. refl) (number-answer v s refl room z is))
@@ -179,18 +179,8 @@ picture-of-answers k n p c h s s′ t t′ r e = answers (picture k n p c h) (λ
 pub look-up-answers : (s w t t′ : List ℕ) (r : ℕ) → LookupSays s w t t′ r → Answers answerSize (lookupFault s w) t t′ r
 look-up-answers s w t t′ r e = answers (answerAt s (placeOf (shades s) (marks s) w)) (λ _. refl) e
 
--- a smudged window: a place was picked, or the refusal is one of any answer
-pub smudged-picked : (s w t t′ : List ℕ) (r : ℕ) → SmudgedSays s w t t′ r → smudgedFault s w ≡ 0 → Picked s w t t′ r
-smudged-picked s w t t′ r e fine = subst (λ f. pickT (eqb f 0) (Picked s w t t′ r) (Into f [] t t′ r)) fine e
-
-pub smudged-refusal : (s w t t′ : List ℕ) (r : ℕ) → SmudgedSays s w t t′ r → smudgedFault s w ≢ 0 → (b : List ℕ) → Into (smudgedFault s w) (pick (eqb (smudgedFault s w) 0) b []) t t′ r
-smudged-refusal s w t t′ r e some b = let other = ne-eqb (smudgedFault s w) 0 some in rw other (rw other at e)
-
 pub smudged-answers : (s w t t′ : List ℕ) (r : ℕ) → SmudgedSays s w t t′ r → Answers answerSize (smudgedFault s w) t t′ r
-smudged-answers s w t t′ r e = elim (ℕ-discrete (smudgedFault s w) 0) [
-  | yes fine ↦ let x = smudged-picked s w t t′ r e fine in answers (answerAt s (x .place)) (λ _. refl) (into-given t fine refl (x .answer))
-  | no some ↦ answers [] (λ z. absurd (some z)) (smudged-refusal s w t t′ r e some [])
-]
+smudged-answers s w t t′ r e = answers (answerAt s (lowest s w)) (λ _. refl) e
 
 -- a list of misreadings
 pub misreadings-answers : (s w t t′ : List ℕ) (r : DV.Value) → MisreadingsSays s w t t′ r → Answers (listSize s w) (lookupFault s w) t t′ (r .number)

@@ -182,8 +182,8 @@ pub record Demands : Type 0 where
       let p = nthS (sections s) i .offset + be 2 8 t′ in
       (i < sectionCount s) × Lies (marks s) (sections s) i p × (window (shades s) (marks s) p ≡ w) × Rail-told s i t′
       × (drop answerSize t′ ≡ drop answerSize t)
-  -- Smudged windows: look_up_smudged answers if some laid window agrees with what was read, and at most two marks were not. Which one it picks is free, so
-  -- the third demand's last sentence, section and distance of the window that was read, holds here for windows read in full: `smudged-plain`, with `laid`
+  -- Smudged windows: look_up_smudged answers if some laid window agrees with what was read, and at most two marks were not. That need not be the window that
+  -- was read, so the third demand's last sentence, its section and distance, holds here for windows read in full: `smudged-plain`, with `laid`
   pub smudged : (s w : List ℕ) (p : ℕ) (t t′ : List ℕ) (r : ℕ) → planFault s ≡ 0 → p < shades s ^ marks s → laidAt s p ≡ true
       → agrees w (window (shades s) (marks s) p) ≡ true → length (keep unread w) ≤ 2 → answerSize ≤ length t → SmudgedSays s w t t′ r → r ≡ 0
   -- what it answers is true: the window at that distance in that section is laid there, and agrees
@@ -192,6 +192,12 @@ pub record Demands : Type 0 where
       let p = nthS (sections s) i .offset + be 2 8 t′ in
       (i < sectionCount s) × (layingAt s p ≡ suc i) × (agrees w (window (shades s) (marks s) p) ≡ true) × Rail-told s i t′
       × (drop answerSize t′ ≡ drop answerSize t)
+  -- no laid window that agrees stands lower than the one answered
+  pub smudged-lowest : (s w t t′ : List ℕ) (r q : ℕ) → SmudgedSays s w t t′ r → r ≡ 0 → q < shades s ^ marks s → laidAt s q ≡ true
+      → agrees w (window (shades s) (marks s) q) ≡ true → nthS (sections s) (be 0 2 t′) .offset + be 2 8 t′ ≤ q
+  -- so two readers answer alike
+  pub smudged-same : (s w t t′ u u′ : List ℕ) (r q : ℕ) → SmudgedSays s w t t′ r → SmudgedSays s w u u′ q → r ≡ 0 → q ≡ 0
+      → take answerSize t′ ≡ take answerSize u′
   -- of a window that was read in full it answers what look_up does, byte for byte
   pub smudged-plain : (s w t t′ : List ℕ) (r : ℕ) → keep unread w ≡ [] → SmudgedSays s w t t′ r → LookupSays s w t t′ r
   -- Misreadings: misreadings lists the changes of one mark of a laid window that give a laid window

@@ -1,13 +1,13 @@
 -- The search for a laid window that agrees with one that has erasures: what it asks for, and what it answers.
 use mathlib.Core.Path.{_≡_}
-use mathlib.Core.List.{List, []}
+use mathlib.Core.Bool.{_&&_}
+use mathlib.Core.List.{List}
 use Prim.Native.Nat.{ℕ}
-use lib.Dec.{eqb}
+use lib.Dec.{eqb, ltb}
 use lib.ListN.{length}
 use Rattle.theory.specs.Words.{pick, when}
-use Rattle.theory.specs.Lists.{In}
 use Rattle.theory.specs.Plans.{laidAt}
-use Rattle.theory.specs.Erasures.{fitting, smudgeFault}
+use Rattle.theory.specs.Erasures.{fitting, lowest, smudgeFault}
 use Rattle.shape.specs.declared.Strip as DS
 use Rattle.plans.specs.Opened.{Accepted}
 use Rattle.fitting.specs.declared.Fit.{Fit}
@@ -23,16 +23,15 @@ abbrev pub numberOf : Fit → ℕ
 numberOf (At p) = 0
 numberOf Nowhere = 9
 
--- a place, if the window there is laid
-abbrev pub fitAt : List ℕ → ℕ → Fit
-fitAt s p = pick (laidAt s p) (At p) Nowhere
+-- a place, if it is below the best so far and the window there is laid; else the best so far
+abbrev pub betterOf : List ℕ → ℕ → ℕ → ℕ
+betterOf s b p = pick (ltb p b && laidAt s p) p b
 
--- one of some places; none, if there are none
-abbrev pub OneOf : List ℕ → Fit → Type 0
-OneOf ps (At p) = In p ps
-OneOf ps Nowhere = ps ≡ []
+-- the lowest place that fits; none, if none does
+abbrev pub fitOf : List ℕ → List ℕ → Fit
+fitOf s w = pick (eqb (length (fitting s w)) 0) Nowhere (At (lowest s w))
 
--- what the search promises; which of the fitting places it gives is free
+-- what the search promises
 pub record Finds (s w : List ℕ) (r : Fit) : Type 0 where
   pub number : numberOf r ≡ when (eqb (length (fitting s w)) 0) 9
-  pub one : OneOf (fitting s w) r
+  pub is : r ≡ fitOf s w

@@ -1,31 +1,31 @@
--- The lookup of a window with erasures: its faults in their order, and the place that is picked.
+-- The lookup of a window with erasures: its faults in their order, and the place that is found.
 use mathlib.Core.Path.{_≡_, refl, sym, _∙_, ap, ap₂, subst}
 use mathlib.Core.List.{List}
-use Prim.Native.Nat.{ℕ, zero, suc, _<_, _^_}
+use Prim.Native.Nat.{ℕ, _<_, _^_}
 use native.Mathlib.Omega.{arith}
 use lib.Dec.{eqb}
 use lib.ListN.{length}
-use borrow.Author.Tests.{ne-eqb}
 use Rattle.theory.specs.Words.{firstOf, when}
 use Rattle.theory.specs.Lists.{In}
 use Rattle.theory.specs.Plans.{shades, marks, layingAt}
-use Rattle.theory.specs.Erasures.{fitting, smudgeFault, smudgedFault}
+use Rattle.theory.specs.Erasures.{fitting, lowest, smudgeFault, smudgedFault}
 use Rattle.theory.proofs.Faults.{first-some}
 use Rattle.theory.proofs.Laying.{laid-some}
-use Rattle.theory.proofs.Erasures.{fitting-in}
+use Rattle.theory.proofs.Erasures.{fitting-in, lowest-fits}
 use Rattle.shape.specs.declared.Strip as DS
 use Rattle.shape.proofs.Limits.{limits}
 use Rattle.calls.specs.Answers.{Into}
+use Rattle.calls.proofs.Answers.{into-refused, into-given}
 use Rattle.plans.specs.Opened.{Accepted}
 use Rattle.fitting.specs.declared.Fit.{Fit}
 use Rattle.fitting.specs.declared.Fit.the-variants.{At, Nowhere}
-use Rattle.fitting.specs.Fits.{Finds, numberOf, OneOf}
+use Rattle.fitting.specs.Fits.{numberOf, Finds}
+use Rattle.fitting.proofs.Seeking.{is-lowest}
 use Rattle.lookups.specs.Says.{answerAt, LaidIn, SmudgedSays}
 
 -- a refusal leaves the tray as it was
 pub smudged-refused : (s w t : List ℕ) {f : ℕ} → smudgedFault s w ≡ f → ¬ (f ≡ 0) → SmudgedSays s w t t f
-smudged-refused s w t {f = zero} e some = absurd (some refl)
-smudged-refused s w t {f = suc f} e some = rw (e, ne-eqb (suc f) 0 some) (refl, refl)
+smudged-refused s w t e some = into-refused (answerAt s (lowest s w)) t e some refl
 
 -- on an accepted plan, with the strip x that it is laid on
 module _ {s : List ℕ} {x : DS.Strip} (a : Accepted s x) (w : List ℕ) where
@@ -49,8 +49,14 @@ module _ {s : List ℕ} {x : DS.Strip} (a : Accepted s x) (w : List ℕ) where
     none-fits t e = smudged-refused s w t (left ∙ ap numberOf e) (λ z. omega arith)
 
     module _ {p : ℕ} (e : r ≡ At p) where
+      no-fault : smudgedFault s w ≡ 0
+      no-fault = left ∙ ap numberOf e
+
+      lowest-is : p ≡ lowest s w
+      lowest-is = is-lowest finds e
+
       fits : In p (fitting s w)
-      fits = subst (OneOf (fitting s w)) e (finds .one)
+      fits = subst (λ q. In q (fitting s w)) (sym lowest-is) (lowest-fits s w no-fault)
 
       pub place-small : p < 2 ^ 60
       place-small = omega (arith, fitting-in s w fits .0, limits (a .shaped) .range, ap₂ _^_ (a .letters) (a .marked))
@@ -58,5 +64,5 @@ module _ {s : List ℕ} {x : DS.Strip} (a : Accepted s x) (w : List ℕ) where
       pub laid-there : {l : ℕ} → l ≡ layingAt s p → LaidIn s p l
       laid-there {l} g = let some = laid-some s p (fitting-in s w fits .1) in record { faultless = a .faultless; section = g; some = omega (arith, g, some) }
 
-      pub picked : (t : List ℕ) {t′ : List ℕ} {q : ℕ} → Into 0 (answerAt s p) t t′ q → SmudgedSays s w t t′ q
-      picked t g = rw (left ∙ ap numberOf e) (record { place = p; fits = fits; answer = g })
+      pub found-lowest : (t : List ℕ) {t′ : List ℕ} {q : ℕ} → Into 0 (answerAt s p) t t′ q → SmudgedSays s w t t′ q
+      found-lowest t g = into-given t no-fault (ap (answerAt s) lowest-is) g

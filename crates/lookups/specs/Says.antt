@@ -3,11 +3,10 @@ use mathlib.Core.Path.{_≡_}
 use mathlib.Core.List.{List, [], _++_}
 use Prim.Native.Nat.{ℕ, _-_, _≤_}
 use lib.Dec.{eqb}
-use Rattle.theory.specs.Words.{pick, pickT}
-use Rattle.theory.specs.Lists.{In}
+use Rattle.theory.specs.Words.{pick}
 use Rattle.theory.specs.Strips.{placeOf}
 use Rattle.theory.specs.Plans.{shades, marks, planFault, layingAt, distanceAt, railOf, lookupFault}
-use Rattle.theory.specs.Erasures.{fitting, smudgedFault}
+use Rattle.theory.specs.Erasures.{lowest, smudgedFault}
 use Rattle.numbers.specs.Numbers.{putBe}
 use Rattle.calls.specs.Answers.{Into}
 
@@ -28,16 +27,11 @@ LookupSays s w t t′ r =
     let f = lookupFault s w in
     Into f (pick (eqb f 0) (answerAt s (placeOf (shades s) (marks s) w)) []) t t′ r
 
--- a smudged window: the answer for the place of a laid window that agrees. Which one is free: nobody may rely on the `place` that is picked, but it fits
-pub record Picked (s w t t′ : List ℕ) (r : ℕ) : Type 0 where
-  pub place : ℕ
-  pub fits : In place (fitting s w)
-  pub answer : Into 0 (answerAt s place) t t′ r
-
+-- a smudged window: the answer for the lowest place of a laid window that agrees with it
 abbrev pub SmudgedSays : List ℕ → List ℕ → List ℕ → List ℕ → ℕ → Type 0
 SmudgedSays s w t t′ r =
     let f = smudgedFault s w in
-    pickT (eqb f 0) (Picked s w t t′ r) (Into f [] t t′ r)
+    Into f (pick (eqb f 0) (answerAt s (lowest s w)) []) t t′ r
 
 -- what writing an answer asks for: the window at p is laid in section l − 1 of an accepted plan
 pub record LaidIn (s : List ℕ) (p l : ℕ) : Type 0 where

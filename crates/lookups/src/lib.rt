@@ -67,7 +67,7 @@ fn fit_in(plan: &[u8], strip: Strip, window: &[u8], tray: &mut [u8]) -> u8
     }
 }
 
-// Section, distance and rail of some laid window that agrees at every mark that was read; byte 255 is one that was not, and there may be two.
+// Section, distance and rail of the laid window of the lowest place that agrees at every mark that was read; byte 255 is one that was not, and there may be two.
 pub fn look_up_smudged(plan: &[u8], window: &[u8], tray: &mut [u8]) -> u8
     ensures { λ r. ⌜ SmudgedSays (now (plan .entry)) (now (window .entry)) (now (tray .entry)) (now (tray .exit)) r ⌝ }
 {

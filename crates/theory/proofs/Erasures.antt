@@ -13,10 +13,10 @@ use Rattle.theory.specs.Words.{pick, firstOf, when, keep, marksOk}
 use Rattle.theory.specs.Lists.{In, here, there, countFrom}
 use Rattle.theory.specs.Strips.{strip, window, placeOf}
 use Rattle.theory.specs.Plans.{shades, marks, planFault, wordFault, laidAt, layingOf, lookupFault}
-use Rattle.theory.specs.Erasures.{unread, read, agrees, fitsAt, fitting, filling, smudgeFault, smudgedFault}
+use Rattle.theory.specs.Erasures.{unread, read, agrees, fitsAt, fitting, lowest, filling, smudgeFault, smudgedFault}
 use Rattle.theory.specs.Theorems.{Smudged}
 use Rattle.theory.proofs.Base.{test, and-l, and-r, and-in, or-right, same-test, nil-of}
-use Rattle.theory.proofs.Lists.{in-nil, in-some, no-members, keep-in, in-keep, keep-all, count-in, in-count}
+use Rattle.theory.proofs.Lists.{in-nil, in-some, no-members, getD-in, keep-in, in-keep, keep-all, count-in, in-count, count-least}
 use Rattle.theory.proofs.Letters.{marks-cons, marks-head, marks-tail}
 use Rattle.theory.proofs.Reading.{letters-length}
 use Rattle.theory.proofs.Rings.{admitted-range, one-place, strip-marks}
@@ -121,6 +121,18 @@ pub in-fitting : (s w : List ℕ) {p : ℕ} → p < shades s ^ marks s → laidA
 in-fitting s w {p} h laid agree =
     in-keep (fitsAt s w) (in-count (shades s ^ marks s) 0 p (omega arith) (omega arith)) (and-in laid agree)
 
+-- the lowest
+pub lowest-least : (s w : List ℕ) {p : ℕ} → In p (fitting s w) → lowest s w ≤ p
+lowest-least s w i = count-least (fitsAt s w) (shades s ^ marks s) 0 i
+
+pub lowest-in : (s w : List ℕ) → length (fitting s w) ≢ 0 → In (lowest s w) (fitting s w)
+lowest-in s w some = getD-in (fitting s w) 0 0 (omega (arith, some))
+
+pub lowest-fits : (s w : List ℕ) → smudgedFault s w ≡ 0 → In (lowest s w) (fitting s w)
+lowest-fits s w fine =
+    let left = first-none (smudgeFault (shades s) (marks s) w) _ (first-none (planFault s) _ fine .1) .1 in
+    lowest-in s w (eqb-false (length (fitting s w)) 0 (when-none _ 9 (λ z. omega arith) left))
+
 -- on an accepted plan, by the words that agree, each at its place
 module _ (s w : List ℕ) (good : planFault s ≡ 0) where
   range : (2 ≤ shades s) × (1 ≤ marks s)
@@ -132,13 +144,22 @@ module _ (s w : List ℕ) (good : planFault s ≡ 0) where
       let (inside, reads) = one-place .found (shades s) (marks s) v (range .0) (range .1) long letters in
       in-fitting s w inside laid (ap (agrees w) reads ∙ agree)
 
+  -- a place that fits is that of the window there, a word of the strip
+  own-place : {p : ℕ} → In p (fitting s w)
+      → let v = window (shades s) (marks s) p in
+      (placeOf (shades s) (marks s) v ≡ p) × (length v ≡ marks s) × (marksOk (shades s) v ≡ true)
+  own-place {p} i = (
+    one-place .only (shades s) (marks s) p _ (range .0) (range .1) (fitting-in s w i .0) refl,
+    letters-length (shades s ^ marks s) (strip (shades s) (marks s)) p (marks s),
+    strip-marks (shades s) (marks s) p (marks s) (range .0) (range .1),
+  )
+
   -- where a place fits and not too much is erased, nothing is refused
   pub fits-fine : {p : ℕ} → In p (fitting s w) → length (keep unread w) ≤ 2 → smudgedFault s w ≡ 0
   fits-fine {p} i few =
       let (_, _, agree) = fitting-in s w i in
-      let long : length w ≡ marks s = agrees-length w _ agree ∙ letters-length (shades s ^ marks s) (strip (shades s) (marks s)) p (marks s) in
-      let letters = agrees-marks (shades s) w _ agree (strip-marks (shades s) (marks s) p (marks s) (range .0) (range .1)) in
-      rw (good, eq-eqb (length w) (marks s) long, le-ltb 2 _ few, letters, ne-eqb (length (fitting s w)) 0 (in-some i))
+      let (_, long, letters) = own-place i in
+      rw (good, eq-eqb (length w) (marks s) (agrees-length w _ agree ∙ long), le-ltb 2 _ few, agrees-marks (shades s) w _ agree letters, ne-eqb (length (fitting s w)) 0 (in-some i))
 
   -- no word that agrees is laid
   abbrev None : Type 0
@@ -149,11 +170,9 @@ module _ (s w : List ℕ) (good : planFault s ≡ 0) where
     where
       fits-not : {p : ℕ} → In p (fitting s w) → ⊥
       fits-not {p} i =
-          let (inside, laid, agree) = fitting-in s w i in
-          let v = window (shades s) (marks s) p in
-          let place = one-place .only (shades s) (marks s) p v (range .0) (range .1) inside refl in
-          let other = none v (letters-length (shades s ^ marks s) (strip (shades s) (marks s)) p (marks s)) (strip-marks (shades s) (marks s) p (marks s) (range .0) (range .1)) agree in
-          false≢true (sym other ∙ ap (laidAt s) place ∙ laid)
+          let (_, laid, agree) = fitting-in s w i in
+          let (place, long, letters) = own-place i in
+          false≢true (sym (none _ long letters agree) ∙ ap (laidAt s) place ∙ laid)
 
   fits-none : fitting s w ≡ [] → None
   fits-none e v long letters agree = elim (test (laidAt s (placeOf (shades s) (marks s) v))) [
@@ -161,9 +180,18 @@ module _ (s w : List ℕ) (good : planFault s ≡ 0) where
     | inr t ↦ t
   ]
 
-  -- so it is enough to try the fillings
-  pub none-filled : ((c : ℕ) → c < shades s ^ length (keep unread w) → laidAt s (placeOf (shades s) (marks s) (filling (shades s) c w)) ≡ false) → fitting s w ≡ []
-  none-filled none = none-fits (λ v long letters agree. elim (agrees-filled (shades s) w v letters agree) [ filled c l e ↦ ap (λ u. laidAt s (placeOf (shades s) (marks s) u)) (sym e) ∙ none c l ])
+  -- so it is enough to try the fillings: what is not above the place of any that is laid is not above any place that fits
+  pub least-filled : {b p : ℕ}
+      → ((c : ℕ) → c < shades s ^ length (keep unread w) → let q = placeOf (shades s) (marks s) (filling (shades s) c w) in laidAt s q ≡ true → b ≤ q)
+      → In p (fitting s w) → b ≤ p
+  least-filled {b} {p} least i =
+      let (_, laid, agree) = fitting-in s w i in
+      let (place, _, letters) = own-place i in
+      elim (agrees-filled (shades s) w _ letters agree) [
+        | filled c l e ↦
+            let is : placeOf (shades s) (marks s) (filling (shades s) c w) ≡ p = ap (placeOf (shades s) (marks s)) e ∙ place in
+            subst (λ q. b ≤ q) is (least c l (ap (laidAt s) is ∙ laid))
+      ]
 
   -- 9, where the window has no fault of its own
   module _ (fine : smudgeFault (shades s) (marks s) w ≡ 0) where
@@ -219,6 +247,8 @@ smudged = record {
   filling-agrees = λ k c w some h. (filling-marks k c w some h, filling-agrees k c w);
   agrees-filling = λ k w v m h. elim (agrees-filled k w v m h) [ filled c l e ↦ (c, l, e) ];
   fitting-is = λ s w p. (fitting-in s w, λ h. in-fitting s w (h .0) (h .1) (h .2));
+  lowest-fits = lowest-fits;
+  lowest-least = λ s w p i. lowest-least s w i;
   nowhere = nowhere;
   in-full = λ s w full. (fault-full s w full, λ fine p i. fitting-full s w full (lookup-good s w fine .0) i);
 }

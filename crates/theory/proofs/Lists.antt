@@ -221,6 +221,14 @@ pub in-count : (l a d : ℕ) → a ≤ d → d < a + l → In d (countFrom l a)
 in-count zero a d h k = absurd (omega arith)
 in-count (suc l) a d h k = elim (cmp a d) [ less q ↦ there (in-count l (suc a) d q (omega arith)) | equal q ↦ here (sym q) | more q ↦ absurd (omega arith) ]
 
+-- the first of them that passes a test is the lowest
+pub count-least : (f : ℕ → Bool) (l a : ℕ) {d : ℕ} → In d (keep f (countFrom l a)) → getD (keep f (countFrom l a)) 0 0 ≤ d
+count-least f zero a i = absurd (in-nil i)
+count-least f (suc l) a {d} i = elim (test (f a)) [
+  | inl t ↦ rw t (count-in (suc l) a (keep-in f (countFrom (suc l) a) i .0) .0)
+  | inr t ↦ rw t (count-least f l (suc a) (rw t at i))
+]
+
 pub count-length : (l a : ℕ) → length (countFrom l a) ≡ l
 count-length zero a = refl
 count-length (suc l) a = ap suc (count-length l (suc a))

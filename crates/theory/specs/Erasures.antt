@@ -4,7 +4,7 @@ use mathlib.Core.Bool.{Bool, true, false, _&&_, _||_, not}
 use mathlib.Core.List.{List, [], _∷_}
 use Prim.Native.Nat.{ℕ, _/_, _%_, _^_}
 use lib.Dec.{eqb, ltb}
-use lib.ListN.{length}
+use lib.ListN.{length, getD}
 use Rattle.theory.specs.Words.{pick, firstOf, when, keep, marksOk}
 use Rattle.theory.specs.Lists.{countFrom}
 use Rattle.theory.specs.Strips.{window}
@@ -29,6 +29,10 @@ fitsAt s w p = laidAt s p && agrees w (window (shades s) (marks s) p)
 
 abbrev pub fitting : List ℕ → List ℕ → List ℕ
 fitting s w = keep (fitsAt s w) (countFrom (shades s ^ marks s) 0)
+
+-- the lowest of them, which is the first
+abbrev pub lowest : List ℕ → List ℕ → ℕ
+lowest s w = getD (fitting s w) 0 0
 
 -- filling c of a word: for its erasures the digits of c to the base k, the lowest first
 abbrev pub filling : ℕ → ℕ → List ℕ → List ℕ

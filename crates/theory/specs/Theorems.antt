@@ -17,7 +17,7 @@ use Rattle.theory.specs.Rings.{upWords, lyndonsUp, divides, Allowed, rin
 use Rattle.theory.specs.Steps.{extension, nextLyndon, previousLyndon, period}
 use Rattle.theory.specs.Strips.{admitted, stripWords, strip, markAt, marksFrom, window, placeOf, cursorOk, placeIn, cursorAt, stepOf, backOf}
 use Rattle.theory.specs.Plans.{Section, be, endOf, planFault, sectionCount, shades, marks, entrySize, sections, torn, tornBefore, welded, nthS, railOf, layingAt, laidAt, distanceAt, lookupFault, layingOf, distanceOf}
-use Rattle.theory.specs.Erasures.{unread, read, agrees, fitting, filling, smudgeFault, smudgedFault}
+use Rattle.theory.specs.Erasures.{unread, read, agrees, fitting, lowest, filling, smudgeFault, smudgedFault}
 use Rattle.theory.specs.Substitutions.{Change, changed, changes, newPlace, misread, keyOf}
 use Rattle.theory.specs.Marked.{Marked}
 
@@ -292,6 +292,9 @@ pub record Smudged : Type 0 where
   -- the places that fit
   pub fitting-is : (s w : List ℕ) (p : ℕ)
       → In p (fitting s w) ↔ ((p < shades s ^ marks s) × (laidAt s p ≡ true) × (agrees w (window (shades s) (marks s) p) ≡ true))
+  -- the lowest of them, where nothing is refused
+  pub lowest-fits : (s w : List ℕ) → smudgedFault s w ≡ 0 → In (lowest s w) (fitting s w)
+  pub lowest-least : (s w : List ℕ) (p : ℕ) → In p (fitting s w) → lowest s w ≤ p
   -- 9 just when no window that agrees is laid
   pub nowhere : (s w : List ℕ) → planFault s ≡ 0 → smudgeFault (shades s) (marks s) w ≡ 0
       → (smudgedFault s w ≡ 9)

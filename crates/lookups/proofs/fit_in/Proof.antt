@@ -1,8 +1,8 @@
--- `fit_in` gives the section and the distance of a laid window that agrees; a refusal leaves the tray as it was.
+-- `fit_in` gives section, distance and rail of the lowest laid window that agrees; a refusal leaves the tray as it was.
 use mathlib.Core.Path.{_≡_, sym, _∙_}
 use borrow.Author.Needs.{needs}
 use Rattle.theory.specs.Erasures.{smudgeFault}
-use Rattle.lookups.proofs.Fitting.{window-refused, none-fits, place-small, laid-there, picked}
+use Rattle.lookups.proofs.Fitting.{window-refused, none-fits, place-small, laid-there, found-lowest}
 use Rattle.lookups.proofs.fit_in.Statement.{statement}
 use Rattle.lookups.proofs.fit_in.Tie as tie
 
@@ -62,7 +62,7 @@ returns-3 c =
     let told = given .before .before .before in
     let k = found told in
     let f = begun k in
-    picked (f .pre) (f .args .window .now) (fine (k .before)) (k .find .ensures) (told .before .place .given .1) (f .args .tray .now) (given .give .ensures)
+    found-lowest (f .pre) (f .args .window .now) (fine (k .before)) (k .find .ensures) (told .before .place .given .1) (f .args .tray .now) (given .give .ensures)
 
 pub fit-in-spec : {M : Type 1} → statement M
 fit-in-spec =
