@@ -32,9 +32,9 @@
 extern "C" {
 #endif
 
-/* The major number rises with a change that a host must react to, the minor number with a new call. */
+/* The major number rises with a change that a host must react to, the minor number with a new call, or where a call promises more. */
 #define STRIP_VERSION_MAJOR 3
-#define STRIP_VERSION_MINOR 1
+#define STRIP_VERSION_MINOR 2
 
 /* Limits: k from 2, n from 1, and k^n at most 2^60; sections of a plan, and the bytes of its longest record. */
 #define STRIP_MOST_SHADES 36
@@ -163,14 +163,16 @@ uint8_t picture_of(uint64_t k, uint64_t n, uint64_t place, uint64_t width, uint6
 uint8_t look_up(const uint8_t *plan, size_t plan_len, const uint8_t *window, size_t window_len, uint8_t *tray, size_t tray_len);
 
 /* The same for a window in which up to two marks could not be read: byte STRIP_UNREAD, which is no bad mark here and is one in every other call.
-   The answer is section, distance and rail of some laid window that agrees at every mark that was read. Which one, if several do, is
-   free, and may change: do not rely on it. With every mark read the answer is look_up's. Tray: 12 bytes, as for look_up.
+   The answer is section, distance and rail of the laid window that agrees at every mark that was read; if several do, of the one whose first mark has
+   the lowest place on the strip, whatever its section, distance or rail. So any two readers answer alike; up to version 3.1 which one was
+   answered was free. With every mark read the answer is look_up's. Tray: 12 bytes, as for look_up.
    Refusals: 7, 1, 8, 2, 11, 3, 9, 6, where 9 says that no laid window agrees.
 
    With the plan above, the window {STRIP_UNREAD, 0, 0, 0} leaves 0 0, 0 0 0 0 0 0 0 0, 0 0 in the tray: of 0000, at place 0, and 1000, at place 15
-   and over the strip's end, only the first is laid. {1, 0, 0, STRIP_UNREAD} is refused with 9.
+   and over the strip's end, only the first is laid. {1, STRIP_UNREAD, 1, STRIP_UNREAD} leaves 0 1, 0 0 0 0 0 0 0 0, 0 1: of the three that are laid,
+   at the places 8, 10 and 12, the lowest. {1, 0, 0, STRIP_UNREAD} is refused with 9.
 
-   Each unread mark may be any of the k shades, so with two of them k * k windows are tried: at most 1,296. */
+   Each unread mark may be any of the k shades, so with two of them k * k windows are tried, always all: at most 1,296. */
 uint8_t look_up_smudged(const uint8_t *plan, size_t plan_len, const uint8_t *window, size_t window_len, uint8_t *tray, size_t tray_len);
 
 /* How near a window that is laid is to another one: every change of one of its marks that gives a window which is laid too, as look_up has it. Each is
