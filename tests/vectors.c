@@ -1,7 +1,6 @@
 /* Reads calls with expected results, as vectors.py prints them, and compares the library: the number given back, the answer, and every
-   byte that must stay, with trays one byte short, exact and longer. Of a smudged window several answers may be right: any of them is taken.
-   A picture's size and a list's number of entries go into a tray of their own, which is lent one byte short, exact and longer.
-   Exits 1 if anything differs, or a call is never compared. */
+   byte that must stay, with trays one byte short, exact and longer. A picture's size and a list's number of entries go into a tray of their own,
+   which is lent one byte short, exact and longer. Exits 1 if anything differs, or a call is never compared. */
 #include "../include/strip.h"
 #include "lent.h"
 
@@ -12,7 +11,7 @@ static const char *const NAMES[CALLS] = {"turn", "rank", "word", "mark", "place"
 struct vector {
     int call;
     uint64_t k, n, number, marks, height; /* the marks of a picture are its width */
-    size_t input_length, plan_length, answer_length, answers; /* so many answers, each of that length, one after the other */
+    size_t input_length, plan_length, answer_length;
     uint8_t input[MOST_BYTES], plan[MOST_BYTES], answer[MOST_ANSWER];
     unsigned refusal;
 };
@@ -48,16 +47,12 @@ static unsigned digit(char c) {
     return (unsigned)(c - 'a' + 10);
 }
 
-static size_t bytes_of(const char *text, size_t letters, uint8_t *into, size_t room) {
-    size_t length = letters / 2;
+static size_t bytes_field(uint8_t *into, size_t room) {
+    const char *text = field();
+    size_t length = strcmp(text, "-") == 0 ? 0 : strlen(text) / 2;
     if (length > room) bad_line("too many bytes");
     for (size_t i = 0; i < length; i++) into[i] = (uint8_t)(digit(text[2 * i]) << 4 | digit(text[2 * i + 1]));
     return length;
-}
-
-static size_t bytes_field(uint8_t *into) {
-    const char *text = field();
-    return strcmp(text, "-") == 0 ? 0 : bytes_of(text, strlen(text), into, MOST_BYTES);
 }
 
 /* of a picture: two lines, and in each row a byte for each mark and for each line of 70 */
@@ -87,20 +82,6 @@ static int may_be_so_long(uint64_t length) {
     return v.call == MISREAD ? length % STRIP_ENTRY == 0 && length <= STRIP_MOST_LIST : length == answer_bytes();
 }
 
-/* the answers that are right, parted by commas, each as long as the header says; none of a refusal */
-static void answers_field(void) {
-    const char *text = field();
-    v.answers = v.answer_length = 0;
-    for (int more = 1; more; v.answers++) {
-        size_t letters = strcmp(text, "-") == 0 ? 0 : strcspn(text, ",");
-        v.answer_length = bytes_of(text, letters, v.answer + v.answers * v.answer_length, MOST_ANSWER - v.answers * v.answer_length);
-        if (!may_be_so_long(v.answer_length)) bad_line("an answer is not as long as the header says");
-        more = text[letters] == ',';
-        text += letters + 1;
-    }
-    if (v.answers != 1 && v.call != SMUDGED) bad_line("several answers");
-}
-
 static void parse(char *line) {
     const char *name = strtok(line, " \n");
     v.call = 0;
@@ -109,17 +90,18 @@ static void parse(char *line) {
     v.input_length = v.plan_length = 0;
     int of_plan = v.call == LOOK || v.call == SMUDGED || v.call == MISREAD;
     if (of_plan) {
-        v.plan_length = bytes_field(v.plan);
+        v.plan_length = bytes_field(v.plan, MOST_BYTES);
     } else {
         v.k = number_field();
         v.n = number_field();
     }
-    if (of_plan || v.call == TURN || v.call == RANK || v.call == PLACE) v.input_length = bytes_field(v.input);
+    if (of_plan || v.call == TURN || v.call == RANK || v.call == PLACE) v.input_length = bytes_field(v.input, MOST_BYTES);
     else v.number = number_field();
     if (v.call == PRINT || v.call == PICTURE) v.marks = number_field();
     if (v.call == PICTURE) v.height = number_field();
     v.refusal = (unsigned)number_field();
-    answers_field();
+    v.answer_length = bytes_field(v.answer, MOST_ANSWER);
+    if (!may_be_so_long(v.answer_length)) bad_line("an answer is not as long as the header says");
 }
 
 static unsigned call(const struct lent *input, const struct lent *plan, const struct lent *count, const struct lent *tray) {
@@ -137,13 +119,6 @@ static unsigned call(const struct lent *input, const struct lent *plan, const st
         return misreadings_of(plan->bytes, plan->length, input->bytes, input->length, count->bytes, count->length, tray->bytes, tray->length);
     }
     exit(2);
-}
-
-/* whether the tray holds one of the answers, and no other byte is touched */
-static int holds_one(const struct lent *tray) {
-    for (size_t i = 0; i < v.answers; i++)
-        if (holds(tray, v.answer + i * v.answer_length, v.answer_length)) return 1;
-    return 0;
 }
 
 static int has_count(void) {
@@ -167,7 +142,7 @@ static void compare_counted(size_t tray_length, size_t count_length, unsigned lo
     int small = tray_length < v.answer_length || count_length < STRIP_NUMBER;
     unsigned refusal = v.refusal == 0 && small ? STRIP_TRAY_TOO_SMALL : v.refusal;
     unsigned given = call(&input, &plan, &count, &tray);
-    int right = given == refusal && (refusal == 0 ? holds_one(&tray) : holds(&tray, v.answer, 0)) && holds(&input, v.input, v.input_length) &&
+    int right = given == refusal && holds(&tray, v.answer, refusal == 0 ? v.answer_length : 0) && holds(&input, v.input, v.input_length) &&
                 holds(&plan, v.plan, v.plan_length) && holds_count(&count, refusal);
     if (!right && failures++ < 20)
         printf("line %lu (%s), tray of %zu, for a count %zu: number %u, expected %u%s\n", line, NAMES[v.call], tray_length, count_length, given, refusal,

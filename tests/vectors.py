@@ -5,8 +5,7 @@
     rank  K N WORD        REFUSAL ANSWER        print K N PLACE MARKS REFUSAL ANSWER
     word  K N INDEX       REFUSAL ANSWER        look  PLAN WINDOW     REFUSAL ANSWER
     place K N WINDOW      REFUSAL ANSWER        picture K N PLACE WIDTH HEIGHT REFUSAL ANSWER
-    smudged PLAN WINDOW   REFUSAL ANSWER,ANSWER,..   any of the answers is right
-    misread PLAN WINDOW   REFUSAL ANSWER             the list, which may be empty
+    smudged PLAN WINDOW   REFUSAL ANSWER        misread PLAN WINDOW   REFUSAL ANSWER, the list, which may be empty
 
 Bytes are written in hexadecimal, no bytes as "-". An optional argument is the most places of a small strip, of which all is printed.
 """
@@ -65,8 +64,8 @@ def look(plan, window):
 
 
 def smudged(plan, window):
-    fault, answers = model.look_up_smudged(plan, window)
-    print("smudged", text(plan), text(window), fault, ",".join(map(text, answers)) or "-")
+    fault, answer = model.look_up_smudged(plan, window)
+    print("smudged", text(plan), text(window), fault, text(answer))
 
 
 def misread(plan, window):
