@@ -8,13 +8,15 @@
     smudged PLAN WINDOW   REFUSAL ANSWER        misread PLAN WINDOW   REFUSAL ANSWER, the list, which may be empty
 
 Bytes are written in hexadecimal, no bytes as "-". An optional argument is the most places of a small strip, of which all is printed.
+Fails if there are too few smudged windows that tell the lowest place from what a lookup might give by mistake.
 """
 import random
 import sys
+from collections import Counter, defaultdict, namedtuple
 from itertools import combinations, product
 
 import model
-from model import LARGE, UNREAD, admitted, letters, plan_bytes, small_strips, strip_of
+from model import LARGE, UNREAD, admitted, filling_places, letters, plan_bytes, small_strips, strip_of
 
 HUGE = (2**60, 2**60 + 1, 2**63, 2**64 - 1)
 
@@ -66,6 +68,8 @@ def look(plan, window):
 def smudged(plan, window):
     fault, answer = model.look_up_smudged(plan, window)
     print("smudged", text(plan), text(window), fault, text(answer))
+    if fault == 0 and UNREAD in window:
+        tally(plan, tuple(window))
 
 
 def misread(plan, window):
@@ -77,6 +81,52 @@ def on_word(k, n, marks_):
     turn(k, n, marks_)
     rank(k, n, marks_)
     place(k, n, marks_)
+
+
+# What the smudged windows tell
+
+# a laid window that agrees, with its number among the fillings
+Fit = namedtuple("Fit", "filling place section distance rail")
+# by what a lookup might take another one for that of the lowest place
+MISTAKES = {
+    "the first filling": lambda fit: fit.filling,
+    "the last filling": lambda fit: -fit.filling,
+    "the highest place": lambda fit: -fit.place,
+    "the last in the first section": lambda fit: (fit.section, -fit.place),
+    "the smallest distance": lambda fit: (fit.distance, fit.place),
+    "the lowest rail": lambda fit: (fit.rail, fit.place),
+    "the lowest place in 32 bits": lambda fit: (fit.place % 2**32, fit.place),
+}
+SMALL, MOST_SMALL, MANY = "small strips", 64, "more than 255 sections"
+tallied = defaultdict(Counter)
+
+
+def tally(plan, window):
+    """Counts the kinds of an answered window: by the mistakes that would give another answer, and by where the lowest place is among the fillings."""
+    k, n, places = plan[0], plan[1], filling_places(plan[0], window)
+    layings = [model.laid(plan, place) for place in places]
+    fits = [Fit(filling, places[filling], *found) for filling, found in enumerate(layings) if found]
+    lowest = min(fits, key=lambda fit: fit.place)
+    lower, without_rails = [place for place in places if place < lowest.place], plan_bytes(k, n, model.sections_of(plan))
+    across = [place for place in lower if model.laid(without_rails, place)]
+    kinds = {name: min(fits, key=mistake) != lowest for name, mistake in MISTAKES.items()}
+    kinds.update({
+        "neither the first that is laid nor the last": lowest not in (fits[0], fits[-1]),
+        "the first of all": lowest.filling == 0,
+        "the last of all": lowest.filling == len(places) - 1,
+        "a lower one in a gap": len(lower) > len(across),
+        "a lower one across a joint": len(across) > 0,
+        "one over the end": max(places) > k**n - n,
+    })
+    for group in [SMALL if k**n <= MOST_SMALL else (k, n)] + ([MANY] if model.count_in(plan) > 255 else []):
+        tallied[group].update(kinds)
+
+
+def check_tally():
+    """Each kind came often, on the small strips, on each large one and with many sections; a place of a small strip is the same in 32 bits."""
+    del tallied[SMALL]["the lowest place in 32 bits"]
+    for group, often in [(SMALL, 300), (MANY, 20)] + [(strip, 10) for strip in LARGE]:
+        assert min(tallied[group].values()) >= often, (group, tallied[group])
 
 
 # Cases named in the documents
@@ -116,11 +166,11 @@ def plans_of_the_rules():
 
 
 def smudged_of_the_rules():
-    plan = plan_bytes(2, 4, [(0, 6), (8, 8)])
-    for window in model.smudged_windows(2, 4, 4):
+    """Every window of a plan with a gap, of one section, and of two that meet, welded and not; two windows with a bad mark."""
+    plans = [plan_bytes(2, 4, sections) for sections in ([(0, 6), (8, 8)], [(0, 16)])]
+    plans += [plan_bytes(2, 4, [(0, 8), (8, 8)], rails) for rails in (None, (7, 7), (7, 8), (8, 7))]
+    for plan, window in product(plans, model.smudged_windows(2, 4, 4) + [(UNREAD, 2, UNREAD, UNREAD), (UNREAD, 2, 0, 0)]):
         smudged(plan, window)
-    smudged(plan, (UNREAD, 2, UNREAD, UNREAD))
-    smudged(plan, (UNREAD, 2, 0, 0))
 
 
 def misread_of_the_rules():
@@ -347,6 +397,11 @@ def both(k, n, sections, chance):
     return [plan_bytes(k, n, sections), plan_bytes(k, n, sections, some_rails(len(sections), chance))]
 
 
+def each_record(k, n, sections, chance):
+    """The same, and with a rail for each section, the higher the earlier."""
+    return both(k, n, sections, chance) + [plan_bytes(k, n, sections, range(len(sections))[::-1])]
+
+
 def random_sections(places, n, most, chance):
     """Good sections: some touch, some have a gap, some are as short as may be."""
     sections, start = [], chance.choice((0, chance.randrange(places)))
@@ -380,16 +435,14 @@ def small_plans(chance, many):
 
 
 def small_smudged(chance, many):
-    """Every window with up to three marks unread of the strips with up to 64 places, in plans without sections, with one, with two that touch, and
-    in such as come."""
-    for k, n in small_strips(64):
-        windows, places = model.smudged_windows(k, n, 3), k**n
-        half = max(n, places // 2)
-        plans = [[], [(0, places)], [(0, half), (half, places - half)]] + [random_sections(places, n, chance.randint(1, 4), chance) for _ in range(many)]
-        for sections in plans:
-            plan = either(k, n, sections, chance)
-            for window in windows:
-                smudged(plan, window)
+    """Every window with up to three marks unread of the strips with up to 64 places, in plans without sections, with one, with two that touch, welded
+    or not, and in such as come."""
+    plans = list(model.plans_of_small_strips(MOST_SMALL))
+    for (k, n), _ in product(small_strips(MOST_SMALL), range(many)):
+        plans += each_record(k, n, random_sections(k**n, n, chance.randint(1, 4), chance), chance)
+    for plan in plans:
+        for window in model.smudged_windows(plan[0], plan[1], 3):
+            smudged(plan, window)
 
 
 def small_misread(chance, many):
@@ -430,7 +483,7 @@ def joints(chance, most):
             for plan in both(k, n, sections, chance):
                 for at in range(places):
                     look(plan, strip.marks(at, n))
-                smudged(plan, smudge(strip.marks(chance.randrange(places), n), 1, chance))
+                smudged(plan, smudge(strip.marks(chance.randrange(places), n), chance.randint(1, 2), chance))
                 misread(plan, strip.marks(chance.randrange(places), n))
 
 
@@ -468,6 +521,70 @@ def large_smudged(chance, many):
                     offset, length = chance.choice(sections)
                     at = chance.choice((offset, offset + length - n, offset + length - n + 1, offset + length - 1))
                     smudged(plan, smudge(strip.marks(at % strip.places, n), count, chance))
+
+
+def unclear(k, n, chance):
+    """One or two marks unread, in a window of any kind."""
+    if chance.random() < 0.3:
+        return (UNREAD,) + smudge(fronted(k, n, chance)[1:], chance.randint(0, 1), chance)
+    return smudge(chance.choice((plain, runs, topped, ending))(k, n, chance), chance.choice((1, 2, 2)), chance)
+
+
+def fronted(k, n, chance):
+    """Largest shades, smallest, then any: with another first mark, even the smallest, its place is mostly higher."""
+    return ([k - 1] * chance.randint(1, n // 2) + [0] * (1 + n // 4) + plain(k, n, chance))[:n]
+
+
+def ending(k, n, chance):
+    """A window over the strip's end."""
+    tops = chance.randint(1, n - 1)
+    return [k - 1] * tops + [0] * (n - tops)
+
+
+def covered_smudged(chance, many):
+    """Sections that meet from the strip's first place to its last, so that nearly all fillings are laid; with one section, all in that."""
+    for (k, n), m, _ in product(LARGE, (1, 2, 500), range(many)):
+        ends = [k**n * i // m for i in range(m + 1)]
+        window = unclear(k, n, chance)
+        for plan in each_record(k, n, between(ends), chance):
+            smudged(plan, window)
+
+
+def aimed_smudged(chance, many):
+    """Plans for a window's fillings, in which some of these are laid and lower ones are not."""
+    for (k, n), _ in product(LARGE + tuple((k, n) for k, n in small_strips(256) if n > 1), range(many)):
+        window = unclear(k, n, chance)
+        for sections in (cut_near(window, k, n, chance), short_at(window, k, n, chance)):
+            for plan in each_record(k, n, sections, chance):
+                smudged(plan, window)
+
+
+def cut_near(window, k, n, chance):
+    """Sections that end at, beside or across fillings, at times hundreds more that end anywhere; some left out."""
+    fitting, ends = filling_places(k, window), [0]
+    some = chance.sample(fitting, min(len(fitting), chance.choice((4, 8, 100))))
+    points = [place + chance.choice((-1, 0, 1, n // 2, n - 1, n, n + 1)) for place in some]
+    points += [chance.randrange(k**n) for _ in range(chance.choice((0, 0, 390)))]
+    for point in sorted(points) + [k**n]:
+        if ends[-1] + n <= point <= k**n:
+            ends.append(point)
+    return [section for section in between(ends) if chance.random() < 0.8]
+
+
+def short_at(window, k, n, chance):
+    """Sections as short as may be: at a filling, often the last, and at some of higher places; a place behind some of lower ones, or two across one."""
+    fitting = filling_places(k, window)
+    lowest = chance.choice((fitting[-1], chance.choice(fitting)))
+    starts = [lowest]
+    for place in chance.sample(fitting, min(len(fitting), 12)):
+        cut = place + chance.randint(1, n - 1)
+        starts += [place] if place > lowest else chance.choice(([], [place + 1], [cut - n, cut]))
+    return apart(starts, n, k**n)
+
+
+def between(ends):
+    """Sections that meet, from each of the places to the next."""
+    return [(start, end - start) for start, end in zip(ends, ends[1:])]
 
 
 def large_misread(chance, many):
@@ -584,6 +701,8 @@ def main():
     large_plans(chance, 6)
     small_smudged(chance, 2)
     large_smudged(chance, 6)
+    covered_smudged(chance, 4)
+    aimed_smudged(chance, 36)
     small_misread(chance, 2)
     large_misread(chance, 12)
     aimed_misread(chance, 12)
@@ -593,6 +712,7 @@ def main():
     large_joints(chance)
     pictures(chance)
     picture_refusals()
+    check_tally()
 
 
 if __name__ == "__main__":
