@@ -1,7 +1,8 @@
-/* Calls the library with junk: every set of refusals that can apply together, every section looked for and every pair of a plan broken, every
-   joint on small strips, then inputs drawn with a fixed seed. An argument says how many of these, for a shorter run without the small strips.
-   Checked: the number given back, that a refusal leaves every byte as it was, that an answer leaves the bytes after it, and answers by
-   round trips. Exits 1 if anything is wrong, a number is never given or a call never answers. */
+/* Calls the library with junk: every set of refusals that can apply together, every section looked for and every pair of a plan broken, windows
+   alone in a plan, every joint on small strips, then inputs drawn with a fixed seed. An argument says how many of these, for a shorter run without
+   the small strips. Checked: the number given back, that a refusal leaves every byte as it was, that an answer leaves the bytes after it, and answers
+   by round trips, of smudged windows beside every filling. Exits 1 if anything is wrong, a number is never given, a call never answers, or smudged
+   windows hardly ever fit two laid ones. */
 #include "../include/strip.h"
 #include "lent.h"
 #include <limits.h>
@@ -10,6 +11,7 @@ enum { TURN, RANK, WORD, MARK, PLACE, PRINT, PICTURE, LOOK, SMUDGED, MISREAD, CA
 enum { SHADES = 36, LONGEST = 60, MOST_SECTIONS = 500, NUMBER = 8, LAYING = 12, UNREAD = 255, MOST_UNREAD = 2 };
 enum { WIDEST = 60000, HIGHEST = 64, LINE = 70, CHANGE = 10 }; /* CHANGE: bytes of an entry in a list of misreadings */
 enum { HEAD = 4, PAIR = 16, RAILED = 18 }; /* bytes of a plan before the entries, of an entry in an old record, and in a new one */
+enum { ENOUGH = 1000 }; /* choices, which are smudged windows that fit more than one laid window; more are not counted */
 enum { MOST_WORD = 96, MOST_TRAY = 1 << 18, MOST_PLAN = 9100, MOST_COUNT = 16 };
 #define MOST_PLACES ((uint64_t)1 << 60)
 static const char *const NAMES[CALLS] = {"turn_of",    "rank_of", "word_of",         "mark_at",       "place_of", "print_marks",
@@ -41,7 +43,7 @@ struct ask {
 };
 
 static struct room input_room, plan_room, tray_room, count_room;
-static unsigned long refused[BITS], failures, round_trips[CALLS];
+static unsigned long refused[BITS], failures, round_trips[CALLS], choices;
 
 static void fail(const struct ask *a, const char *what, unsigned given, unsigned wanted) {
     if (failures++ >= 20) return;
@@ -199,28 +201,36 @@ static unsigned smudge_faults(uint64_t k, uint64_t n, const uint8_t *window, siz
     return unread > MOST_UNREAD ? faults | 1u << 11 : faults;
 }
 
-/* whether a window with shades tried in place of the marks that were not read, from the mark i on, is laid */
-static int some_laid(const struct ask *a, uint8_t *window, size_t i) {
-    uint8_t answer[LAYING];
+/* whether a window with shades tried in place of the marks that were not read, from the mark i on, is laid at a place from low to below high */
+static int some_laid(const struct ask *a, uint8_t *window, size_t i, uint64_t low, uint64_t high) {
     while (i < a->input_length && window[i] != UNREAD) i++;
-    if (i == a->input_length) return laid(a, place_by_library(a->plan[0], a->plan[1], window), answer);
+    if (i == a->input_length) {
+        uint8_t answer[LAYING];
+        uint64_t place = place_by_library(a->plan[0], a->plan[1], window);
+        return place >= low && place < high && laid(a, place, answer);
+    }
     int found = 0;
     for (unsigned shade = 0; shade < a->plan[0] && !found; shade++) {
         window[i] = (uint8_t)shade;
-        found = some_laid(a, window, i + 1);
+        found = some_laid(a, window, i + 1, low, high);
     }
     window[i] = UNREAD;
     return found;
 }
 
-static unsigned smudged_faults(const struct ask *a) {
+/* the same of the ask's own window */
+static int fits(const struct ask *a, uint64_t low, uint64_t high) {
     uint8_t window[LONGEST];
+    memcpy(window, a->input, a->input_length);
+    return some_laid(a, window, 0, low, high);
+}
+
+static unsigned smudged_faults(const struct ask *a) {
     unsigned faults = plan_faults(a->plan, a->plan_length);
     if (faults & 1u << 7) return faults;
     faults |= smudge_faults(a->plan[0], a->plan[1], a->input, a->input_length);
     if (faults != 0) return faults;
-    memcpy(window, a->input, a->input_length);
-    return some_laid(a, window, 0) ? 0 : 1u << 9;
+    return fits(a, 0, UINT64_MAX) ? 0 : 1u << 9;
 }
 
 /* the entry of a list for the window with a mark changed to a shade; 0 if that is the shade it has, or the new window is not laid */
@@ -380,7 +390,7 @@ static int sound_picture(const struct ask *a, const uint8_t *file) {
     return digits == a->marks * a->height && in_line == 0;
 }
 
-/* section, distance and rail are those of the window there, which agrees with what was read */
+/* section, distance and rail are those of the window there, which agrees with what was read, and no filling is laid at a lower place */
 static int sound_smudged(const struct ask *a, const uint8_t *answer) {
     uint8_t right[LAYING], window[LONGEST];
     uint64_t section = number_in(answer, 2), k = a->plan[0], n = a->plan[1];
@@ -389,7 +399,8 @@ static int sound_smudged(const struct ask *a, const uint8_t *answer) {
     if (!laid(a, place, right) || memcmp(answer, right, LAYING) != 0 || print_marks(k, n, place, n, window, n) != 0) return 0;
     for (size_t i = 0; i < n; i++)
         if (a->input[i] != UNREAD && a->input[i] != window[i]) return 0;
-    return 1;
+    if (choices < ENOUGH) choices += (unsigned)fits(a, place + 1, UINT64_MAX);
+    return !fits(a, 0, place);
 }
 
 /* each entry is right, and behind the one before by its change in shade, its mark and its new shade; as the count is right too, none is missing */
@@ -477,6 +488,21 @@ static void try_trays(struct ask a) {
             a.count_length = COUNT_LENGTHS[(i + (size_t)a.kind) % 4];
             try_call(&a);
         }
+}
+
+/* Numbers drawn with a fixed seed */
+
+static uint64_t seed = 20261115;
+
+static uint64_t draw(void) {
+    uint64_t x = seed += 0x9e3779b97f4a7c15ull;
+    x = (x ^ x >> 30) * 0xbf58476d1ce4e5b9ull;
+    x = (x ^ x >> 27) * 0x94d049bb133111ebull;
+    return x ^ x >> 31;
+}
+
+static uint64_t below(uint64_t limit) {
+    return limit == 0 ? 0 : draw() % limit;
 }
 
 /* Every set of refusals that can apply together */
@@ -604,19 +630,30 @@ static size_t spread(uint64_t k, uint64_t n, uint64_t m, uint8_t *plan, size_t e
     return HEAD + entry * (size_t)m;
 }
 
-/* the window at a place, with the mark in its middle unread if the call takes that; the trays are just as long as the answer */
+/* one or two marks of a window that were not read; two of many shades are tried rarely, since that takes a place for each pair of shades */
+static void smudge(uint64_t k, uint8_t *window, size_t length) {
+    window[below(length)] = UNREAD;
+    if (below(k <= 8 ? 2 : 32) == 0) window[below(length)] = UNREAD;
+}
+
+/* a window of the plan's strip; the trays are just as long as the answer */
+static void look_for(struct ask *a, const uint8_t *window) {
+    a->input = window;
+    a->input_length = a->plan[1];
+    a->kind = (a->kind + 1) % KINDS;
+    a->tray_length = answer_length(a);
+    a->count_length = NUMBER;
+    try_call(a);
+}
+
+/* the window at a place, with marks unread if the call takes that */
 static void look_at(struct ask *a, uint64_t place) {
     static uint8_t window[LONGEST];
     uint64_t k = a->plan[0], n = a->plan[1], places;
     admitted(k, n, &places);
     print_marks(k, n, place % places, n, window, n);
-    if (a->call == SMUDGED) window[n / 2] = UNREAD;
-    a->input = window;
-    a->input_length = (size_t)n;
-    a->kind = (a->kind + 1) % KINDS;
-    a->tray_length = answer_length(a);
-    a->count_length = NUMBER;
-    try_call(a);
+    if (a->call == SMUDGED) smudge(k, window, (size_t)n);
+    look_for(a, window);
 }
 
 /* at a section's first and last mark, at its last window, at one that ends behind it by a mark or by half of them, and behind it */
@@ -673,17 +710,60 @@ static void all_sections(void) {
             }
 }
 
+/* A window alone in a plan, with one mark unread, or two: it is found, whichever of the fillings it is, the first and the last among them */
+
+enum { LONE = 16 };
+
+static void lone_window(uint64_t k, uint64_t n, uint64_t shade) {
+    uint8_t plan[HEAD + PAIR] = {(uint8_t)k, (uint8_t)n, 0, 1}, window[LONGEST];
+    struct ask a = {.call = SMUDGED, .plan = plan, .plan_length = sizeof plan};
+    size_t one = (size_t)below(n), other = (size_t)below(n);
+    for (size_t i = 0; i < n; i++) window[i] = (uint8_t)below(k);
+    window[one] = window[other] = (uint8_t)shade;
+    put_entry(plan, PAIR, 0, place_by_library(k, n, window), n, 0);
+    window[one] = window[other] = UNREAD;
+    look_for(&a, window);
+}
+
+static void lone_windows(void) {
+    for (size_t s = 0; s < sizeof SPREAD_STRIPS / sizeof *SPREAD_STRIPS; s++)
+        for (int i = 0; i < LONE; i++) {
+            uint64_t k = SPREAD_STRIPS[s][0], shades[] = {0, k - 1, below(k)};
+            lone_window(k, SPREAD_STRIPS[s][1], shades[i % 3]);
+        }
+}
+
 /* Every plan of up to two sections, and every one whose sections, up to six, meet from the first place to the last, on small strips, as an old record and
-   as one with two rails: all windows */
+   as one with two rails: all windows, also all with one or two marks unread */
 
 enum { SMALL = 16, MOST_TILES = 6 };
+
+/* the window at a place with one mark unread, or two: only if they are 0, as every smudged window is met so, and once */
+static void look_smudged_at(struct ask *a, uint64_t place) {
+    static uint8_t window[LONGEST];
+    size_t n = a->plan[1];
+    a->call = SMUDGED;
+    print_marks(a->plan[0], n, place, n, window, n);
+    for (size_t i = 0; i < n; i++)
+        for (size_t j = i; j < n; j++) {
+            if (window[i] != 0 || window[j] != 0) continue;
+            window[i] = window[j] = UNREAD;
+            look_for(a, window);
+            window[i] = window[j] = 0;
+        }
+}
 
 /* a list asks for the place of each change, so lists only in some of the plans */
 static void look_everywhere(struct ask *a, uint64_t places) {
     static unsigned long plans;
-    int last = plans++ % 5 == 0 ? MISREAD : SMUDGED;
-    for (uint64_t place = 0; place < places; place++)
-        for (a->call = LOOK; a->call <= last; a->call++) look_at(a, place);
+    int with_lists = plans++ % 5 == 0;
+    for (uint64_t place = 0; place < places; place++) {
+        a->call = LOOK;
+        look_at(a, place);
+        look_smudged_at(a, place);
+        a->call = MISREAD;
+        if (with_lists) look_at(a, place);
+    }
 }
 
 /* looks, then lays one more section from a place on; if sections are to meet, just there, and it looks when they reach the last place */
@@ -718,19 +798,6 @@ static void all_joints(void) {
 }
 
 /* Inputs drawn with a fixed seed */
-
-static uint64_t seed = 20261115;
-
-static uint64_t draw(void) {
-    uint64_t x = seed += 0x9e3779b97f4a7c15ull;
-    x = (x ^ x >> 30) * 0xbf58476d1ce4e5b9ull;
-    x = (x ^ x >> 27) * 0x94d049bb133111ebull;
-    return x ^ x >> 31;
-}
-
-static uint64_t below(uint64_t limit) {
-    return limit == 0 ? 0 : draw() % limit;
-}
 
 /* a number of any size, small ones as often as large ones */
 static uint64_t draw_any(void) {
@@ -815,8 +882,8 @@ static size_t draw_plan(uint64_t k, uint64_t n, uint8_t *plan) {
     return length;
 }
 
-/* a good plan with few sections that have most of the strip, so that most changes of a mark give a laid window; of a strip that is too short, or none,
-   any plan */
+/* a good plan with few sections that have most of the strip, so that most changes of a mark, and most fillings, are laid; of a strip that is too
+   short, or none, any plan */
 static size_t draw_wide_plan(uint64_t k, uint64_t n, uint8_t *plan) {
     uint64_t places, m = 1 + below(4);
     if (!admitted(k, n, &places) || places / m < 2 * n + 5) return draw_plan(k % 256, n % 256, plan);
@@ -835,11 +902,11 @@ static size_t draw_window(const uint8_t *plan, size_t length, uint8_t *window) {
     return (size_t)n - (below(16) == 0);
 }
 
-/* some marks of a window that were not read; two of many shades are tried rarely, since that takes a place for each pair of shades */
+/* mostly so many unread marks as are taken, at times none or too many */
 static void draw_smudge(uint64_t k, uint8_t *window, size_t length) {
-    uint64_t unread = below(below(8) == 0 ? 4 : 3);
-    if (unread == 2 && k > 8 && below(32) != 0) unread = 1;
-    for (; unread > 0 && length != 0; unread--) window[below(length)] = UNREAD;
+    if (length == 0 || below(4) == 0) return;
+    smudge(k, window, length);
+    for (int more = below(16) == 0 ? MOST_UNREAD : 0; more > 0; more--) window[below(length)] = UNREAD;
 }
 
 /* a picture: mostly of two shades and within the limits; most files are short */
@@ -866,7 +933,7 @@ static void draw_call(void) {
     if (a.call == MARK || a.call == PRINT) a.number = draw_number(places);
     if (a.call == PRINT) a.marks = below(8) == 0 ? draw_any() : below(below(8) == 0 ? 2000 : 100);
     if (takes_a_plan(a.call)) {
-        a.plan_length = a.call == MISREAD && below(2) ? draw_wide_plan(a.k, a.n, plan) : draw_plan(a.k % 256, a.n % 256, plan);
+        a.plan_length = a.call != LOOK && below(2) ? draw_wide_plan(a.k, a.n, plan) : draw_plan(a.k % 256, a.n % 256, plan);
         a.input_length = draw_window(plan, a.plan_length, word);
     }
     if (a.call == SMUDGED) draw_smudge(a.k, word, a.input_length);
@@ -878,12 +945,12 @@ static void draw_call(void) {
     try_call(&a);
 }
 
-/* numbers that were never given and calls that never answered; 10, a lost cursor, is given by no call that C has */
+/* numbers that were never given, calls that never answered, and whether choices were too few; 10, a lost cursor, is given by no call that C has */
 static unsigned never_tried(void) {
     unsigned never = refused[0] == 0;
     for (size_t i = 0; i < sizeof ORDER / sizeof *ORDER; i++) never += ORDER[i] != 10 && refused[ORDER[i]] == 0;
     for (int call = 0; call < CALLS; call++) never += round_trips[call] == 0;
-    return never;
+    return never + (choices < ENOUGH);
 }
 
 int main(int count, char **arguments) {
@@ -895,6 +962,7 @@ int main(int count, char **arguments) {
     all_sets();
     all_plan_sets();
     all_sections();
+    lone_windows();
     if (count == 1) all_joints();
     for (unsigned long i = 0; i < inputs; i++) draw_call();
     for (unsigned i = 0; i < BITS; i++) total += refused[i];
@@ -903,6 +971,6 @@ int main(int count, char **arguments) {
     for (unsigned i = 0; i < BITS; i++)
         if (refused[i] != 0) printf(" number %u: %lu,", i, refused[i]);
     printf(" %lu answers tried by round trips, %lu calls wrong\n", answered, failures);
-    if (never_tried() != 0) printf("a number is never given, or a call never answers\n");
+    if (never_tried() != 0) printf("a number is never given, a call never answers, or smudged windows hardly ever fit two laid ones\n");
     return failures != 0 || never_tried() != 0;
 }
