@@ -37,8 +37,8 @@ static void tell_turn(const uint8_t *plan, const uint8_t *window, size_t count)
         printf(", turn %llu", (unsigned long long)number(tray, sizeof tray));
 }
 
-/* Prints where a window stands in a plan, or one that agrees with it, and its turn; or why that is not told. One mark more than any strip has is
-   enough to be refused. */
+/* Prints where a window stands in a plan or, with marks not read, the one of the lowest place that agrees with it, and its turn; or why that is not
+   told. One mark more than any strip has is enough to be refused. */
 static void look(const uint8_t *plan, size_t plan_len, const char *text)
 {
     uint8_t window[STRIP_MOST_MARKS + 1], tray[STRIP_LAYING];
