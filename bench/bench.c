@@ -24,7 +24,7 @@ static uint64_t draw(void) {
     return x ^ x >> 31;
 }
 
-static void lay_sections(int call) {
+static void lay_sections(void) {
     uint64_t room = places_of(k, n) / SECTIONS;
     plan[0] = (uint8_t)k;
     plan[1] = (uint8_t)n;
@@ -32,8 +32,7 @@ static void lay_sections(int call) {
     for (uint64_t i = 0; i < SECTIONS; i++) {
         uint8_t *at = plan + 4 + 18 * i;
         put_number(at, i * room, 8);
-        /* of smudged windows hardly any is laid, so that all fillings are tried */
-        put_number(at + 8, call == SMUDGED ? n : room - i % 2 * (room / 8), 8);
+        put_number(at + 8, room - i % 2 * (room / 8), 8);
         put_number(at + 16, i / 2, 2); /* the sections that meet have one rail */
     }
 }
@@ -121,7 +120,7 @@ static double pass(int maker, int call, int inputs) {
 static void measure(int call) {
     double least[MAKERS];
     int inputs = prints(call) ? 4 : INPUTS, makers = prints(call) ? MAKERS : COPY;
-    lay_sections(call);
+    lay_sections();
     draw_inputs(call);
     check(call, inputs);
     for (int round = 0; round < ROUNDS; round++)

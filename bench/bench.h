@@ -132,28 +132,40 @@ static inline uint8_t look_in(place_call *place_of_it, laid_at *laid, const uint
     return 0;
 }
 
-/* a smudged window of n marks, two of them unread at most: its fillings in the library's order, the first unread mark the quickest, so that all
-   pick the same window */
-static inline uint8_t fit_in(place_call *place_of_it, laid_at *laid, const uint8_t *plan, size_t plan_len, const uint8_t *window, size_t window_len,
-                             uint8_t *tray, size_t tray_len) {
-    uint8_t filled[MOST], given = 9;
-    uint64_t total = 1;
-    for (size_t i = 0; i < window_len; i++) total *= window[i] == STRIP_UNREAD ? plan[0] : 1;
-    for (uint64_t filling = 0; filling < total && given == 9; filling++) {
-        uint64_t rest = filling;
-        for (size_t i = 0; i < window_len; i++) {
-            filled[i] = window[i];
-            if (window[i] != STRIP_UNREAD) continue;
-            filled[i] = (uint8_t)(rest % plan[0]);
-            rest /= plan[0];
-        }
-        given = look_in(place_of_it, laid, plan, plan_len, filled, window_len, tray, tray_len);
-    }
-    return given;
-}
-
 /* the place of a window without fault */
 typedef uint64_t place_in(uint64_t k, size_t n, const uint8_t *window);
+
+static inline uint8_t smudge_fault(uint64_t k, uint64_t n, const uint8_t *window, size_t length) {
+    size_t unread = 0, bad = 0;
+    if (length != n) return 2;
+    for (size_t i = 0; i < length; i++) {
+        unread += window[i] == STRIP_UNREAD;
+        bad += window[i] >= k && window[i] != STRIP_UNREAD;
+    }
+    return unread > STRIP_MOST_UNREAD ? 11 : bad != 0 ? 3 : 0;
+}
+
+/* a smudged window in a plan without fault: of all its fillings the laid one of the lowest place. Only a place below the lowest so far is
+   looked for in the plan */
+static inline uint8_t fit_in(place_in *place, laid_at *laid, const uint8_t *plan, size_t plan_len, const uint8_t *window, size_t window_len,
+                             uint8_t *tray, size_t tray_len) {
+    uint8_t filled[MOST], answer[STRIP_LAYING], fault = smudge_fault(plan[0], plan[1], window, window_len);
+    uint64_t total = 1, lowest = UINT64_MAX;
+    size_t unread[STRIP_MOST_UNREAD], count = 0;
+    if (fault != 0) return fault;
+    memcpy(filled, window, window_len);
+    for (size_t i = 0; i < window_len; i++)
+        if (window[i] == STRIP_UNREAD) unread[count++] = i, total *= plan[0];
+    for (uint64_t filling = 0; filling < total; filling++) {
+        for (uint64_t i = 0, rest = filling; i < count; i++, rest /= plan[0]) filled[unread[i]] = (uint8_t)(rest % plan[0]);
+        uint64_t found = place(plan[0], plan[1], filled);
+        if (found < lowest && laid(plan, plan_len, found, answer)) lowest = found;
+    }
+    if (lowest == UINT64_MAX) return 9;
+    if (tray_len < sizeof answer) return 6;
+    memcpy(tray, answer, sizeof answer);
+    return 0;
+}
 
 /* a list of misreadings as far as it is made: the plan, how a place is found and looked for in it, and the window, of which a mark is changed at a time */
 struct changes {

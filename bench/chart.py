@@ -18,10 +18,10 @@ Before it is measured, all answers are compared. Ratios only; on a busy machine 
 A picture has 60,000 marks in 64 rows, the most that there may be; document 004 has none, so the column beside it stands for its marks, written
 a byte at a time.
 
-Plans have 500 sections, with rails; those for look_up are welded in pairs, and half of its windows cross a joint. A smudged window has two unread marks,
-and hardly any filling is laid, so that all are tried: 4, 16 and 1,296 on the three strips. A window of which the misreadings are listed is laid, in a
-plan as for look_up, and so are most of its 60, 90 and 385 changes; both C programs make these in the order of the list, and find each place as for
-place_of.
+Plans have 500 sections, with rails, and are welded in pairs. Half of look_up's windows cross a joint. A smudged window has two unread marks; all its
+fillings are tried, 4, 16 and 1,296 on the three strips, of which most are laid. Both C programs look in the plan only for a place below the lowest so
+far. A window of which the misreadings are listed is laid, and so are most of its 60, 90 and 385 changes; both C programs make these in the order of
+the list, and find each place as for place_of.
 
 Why the library is slower than the best C, as far as parts of a call were measured by themselves (not in this run):
 
