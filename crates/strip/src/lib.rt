@@ -62,7 +62,7 @@ pub extern "C" fn look_up(plan: &[u8], window: &[u8], tray: &mut [u8]) -> u8
     lookups::look_up(plan, window, tray)
 }
 
-// The same of a window in which up to two marks were not read, byte 255: of some laid window that agrees at all the others.
+// The same of a window in which up to two marks were not read, byte 255: of the laid window of the lowest place that agrees at all the others.
 #[no_mangle]
 pub extern "C" fn look_up_smudged(plan: &[u8], window: &[u8], tray: &mut [u8]) -> u8
     ensures { λ r. ⌜ SmudgedSays (now (plan .entry)) (now (window .entry)) (now (tray .entry)) (now (tray .exit)) r ⌝ }
