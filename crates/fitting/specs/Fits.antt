@@ -1,4 +1,4 @@
--- The search for a laid window that agrees with one that has erasures: what it asks for, and what it answers.
+-- The search for the lowest laid window that agrees with one that has erasures: what it asks for, and what it answers.
 use mathlib.Core.Path.{_≡_}
 use mathlib.Core.Bool.{_&&_}
 use mathlib.Core.List.{List}

@@ -1,4 +1,4 @@
--- Windows with erasures: the words that agree with one are its fillings; the places that fit, and when there is none; a window that was read in full.
+-- Windows with erasures: the words that agree with one are its fillings; the places that fit, the lowest of them, and when there is none; a window that was read in full.
 use mathlib.Core.Path.{_≡_, refl, sym, _∙_, ap, ap₂, subst}
 use mathlib.Core.Bool.{true, false, _||_, not, false≢true}
 use mathlib.Core.List.{List, [], _∷_}
