@@ -1,13 +1,12 @@
 -- The test of the sections, from section i on: what it says of this one, and of those behind it.
-use mathlib.Core.Path.{_≡_, sym, _∙_, ap, ap₂}
+use mathlib.Core.Path.{_≡_, _∙_, ap}
 use mathlib.Core.Bool.{true, false}
 use mathlib.Core.List.{List, _∷_}
 use Prim.Native.Nat.{ℕ, _+_, _≤_, _<_}
-use native.Mathlib.Numerals.{add-one}
 use lib.ListN.{length, drop, drop-of-length-le}
-use lib.Seq.{drop-cons}
 use borrow.Author.Tests.{le-leb, lt-leb}
-use Rattle.theory.specs.Plans.{Section, noSection, straightFrom, nthS}
+use Rattle.theory.specs.Plans.{Section, straightFrom, nthS}
+use Rattle.theory.proofs.Records.{from-section}
 
 -- no section is left
 pub straight-none : (n top end : ℕ) (xs : List Section) (i : ℕ) → length xs ≤ i → straightFrom n top end (drop i xs) ≡ true
@@ -21,7 +20,7 @@ pub record At (n top end : ℕ) (xs : List Section) (i : ℕ) (x : Section) : Ty
 
 module _ {n top end : ℕ} {xs : List Section} {i : ℕ} {x : Section} (at : At n top end xs i x) where
   one : straightFrom n top 0 xs ≡ straightFrom n top end (x ∷ drop (i + 1) xs)
-  one = at .left ∙ ap (straightFrom n top end) (drop-cons xs i noSection (at .inside) ∙ ap₂ _∷_ (sym (at .is)) (ap (λ j. drop j xs) (sym (add-one i))))
+  one = at .left ∙ ap (straightFrom n top end) (from-section xs i (at .inside) (at .is))
 
   pub early : x .offset < end → straightFrom n top 0 xs ≡ false
   early h = one ∙ rw (lt-leb end (x .offset) h)

@@ -34,6 +34,7 @@ pub mod Records
 pub mod Laying
 pub mod Erasures
 pub mod Substitutions
+pub mod Prices
 pub mod Levels
 pub mod Primes
 pub mod Mobius

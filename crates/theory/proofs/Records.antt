@@ -1,16 +1,17 @@
 -- Records of a plan, old with entries of 16 bytes and new with 18: what the total tells, where each section stands, and what does not depend on the record.
-use mathlib.Core.Path.{_≡_, refl, sym, _∙_, ap}
+use mathlib.Core.Path.{_≡_, refl, sym, _∙_, ap, ap₂}
 use mathlib.Core.Bool.{Bool, true, false, _||_, not, true≢false}
 use mathlib.Core.List.{List, [], _∷_}
 use mathlib.Core.Logic.{_⊎_, inl, inr, ⊎-map, _≢_}
 use Prim.Native.Nat.{ℕ, zero, suc, _+_, _-_, _*_, _^_, _≤_, _<_}
 use native.Mathlib.Omega.{arith}
+use native.Mathlib.Numerals.{add-one}
 use lib.Dec.{eqb, ltb}
 use lib.ListN.{length, take, drop}
-use lib.Seq.{drop-drop}
+use lib.Seq.{drop-cons, drop-drop}
 use borrow.Author.Tests.{ltb-false, le-ltb, eq-eqb, ne-eqb, eqb-true, eqb-false, not-false}
 use Rattle.theory.specs.Words.{pick}
-use Rattle.theory.specs.Plans.{Section, beFrom, be, shades, marks, sectionCount, fitsEntries, entrySize, entryOf, sectionsFrom, sections, torn, tornBefore, straightFrom, planFault, nthS, railOf}
+use Rattle.theory.specs.Plans.{Section, beFrom, be, shades, marks, sectionCount, fitsEntries, entrySize, entryOf, sectionsFrom, sections, torn, tornBefore, straightFrom, planFault, noSection, nthS, railOf}
 use Rattle.theory.specs.Theorems.{Alike, Records}
 use Rattle.theory.proofs.Base.{test, and-true, or-false, or-right, or-cases}
 
@@ -56,6 +57,10 @@ sections-length e (suc m) s = ap suc (sections-length e m (drop e s))
 
 pub sections-count : (s : List ℕ) → length (sections s) ≡ sectionCount s
 sections-count s = sections-length (entrySize s) (sectionCount s) (drop 4 s)
+
+-- the sections from i on, of which x is the first
+pub from-section : (xs : List Section) (i : ℕ) {x : Section} → i < length xs → x ≡ nthS xs i → drop i xs ≡ x ∷ drop (i + 1) xs
+from-section xs i h is = drop-cons xs i noSection h ∙ ap₂ _∷_ (sym is) (ap (λ j. drop j xs) (sym (add-one i)))
 
 entry-at : (e m : ℕ) (s : List ℕ) (i : ℕ) → i < m → nthS (sectionsFrom e m s) i ≡ entryOf e (drop (e * i) s)
 entry-at e zero s i h = absurd (omega arith)

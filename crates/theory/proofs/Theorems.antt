@@ -14,6 +14,7 @@ use Rattle.theory.proofs.Records.{records}
 use Rattle.theory.proofs.Laying.{laid, laid-across, laid-where, laid-each, laid-only, laid-at}
 use Rattle.theory.proofs.Erasures.{smudged}
 use Rattle.theory.proofs.Substitutions.{misread-laws}
+use Rattle.theory.proofs.Prices.{priced}
 use Rattle.theory.proofs.Downwards.{summed}
 use Rattle.theory.proofs.Floors.{floors}
 use Rattle.theory.proofs.Ends.{ends, strip-ends, short-ends}
@@ -43,6 +44,7 @@ theorems =
       laid-at = laid-at;
       smudged = smudged;
       misread = misread-laws;
+      priced = priced;
       summed = summed;
       floors = floors;
       ends = ends;

@@ -12,5 +12,6 @@ pub mod Strips
 pub mod Plans
 pub mod Erasures
 pub mod Substitutions
+pub mod Prices
 pub mod Marked
 pub mod Theorems

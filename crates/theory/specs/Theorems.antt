@@ -19,6 +19,7 @@ use Rattle.theory.specs.Strips.{admitted, stripWords, strip, markAt, mar
 use Rattle.theory.specs.Plans.{Section, be, endOf, planFault, sectionCount, shades, marks, entrySize, sections, torn, tornBefore, welded, nthS, railOf, layingAt, laidAt, distanceAt, lookupFault, layingOf, distanceOf}
 use Rattle.theory.specs.Erasures.{unread, read, agrees, fitting, lowest, filling, smudgeFault, smudgedFault}
 use Rattle.theory.specs.Substitutions.{Change, changed, changes, newPlace, misread, keyOf}
+use Rattle.theory.specs.Prices.{cents, costOf, shortRolls}
 use Rattle.theory.specs.Marked.{Marked}
 
 -- The lists hold just the words that they should, ascending, so each once.
@@ -327,6 +328,25 @@ pub record Misread : Type 0 where
       each (λ c. c .mark ∷ c .shade ∷ newPlace s w c ∷ []) (misread s w)
       ≡ (0 ∷ 0 ∷ 3 ∷ []) ∷ (0 ∷ 2 ∷ 7 ∷ []) ∷ (1 ∷ 1 ∷ 5 ∷ []) ∷ (1 ∷ 0 ∷ 2 ∷ []) ∷ []
 
+-- The bill of sections, for any price and charge.
+pub record Priced : Type 0 where
+  -- cents is the least number of cents that pays v thousandths; so a whole number of cents is not raised
+  pub enough : (v : ℕ) → v ≤ 1000 * cents v
+  pub least : (v c : ℕ) → v ≤ 1000 * c → cents v ≤ c
+  pub whole : (c : ℕ) → cents (1000 * c) ≡ c
+  -- each section is billed by itself
+  pub apart : (p c : ℕ) (xs ys : List Section) → costOf p c (xs ++ ys) ≡ costOf p c xs + costOf p c ys
+  -- for nothing a letter, the charges alone
+  pub charges : (c : ℕ) (xs : List Section) → costOf 0 c xs ≡ length xs * c
+  -- what the test for long sections says; with it the limits of price and charge keep every bill small
+  pub short-are : (xs : List Section) → (shortRolls xs ≡ true) ↔ ((i : ℕ) → i < length xs → nthS xs i .long ≤ 4294967295)
+  pub small : (p c : ℕ) (xs : List Section) → p ≤ 10000000 → c ≤ 4294967295 → shortRolls xs ≡ true → costOf p c xs ≤ length xs * 42953967917295
+  -- neither the record of a plan matters nor its rails
+  pub alike : (p c : ℕ) (s r : List ℕ) → Alike s r → (shortRolls (sections s) ≡ shortRolls (sections r)) × (costOf p c (sections s) ≡ costOf p c (sections r))
+  -- a section of 1,001 letters at price 1, and two of them
+  pub one-roll : costOf 1 0 (record { offset = 0; long = 1001; rail = 0 } ∷ []) ≡ 2
+  pub two-rolls : costOf 1 0 (record { offset = 0; long = 1001; rail = 0 } ∷ record { offset = 2000; long = 1001; rail = 0 } ∷ []) ≡ 4
+
 -- The sums of document 004, section 3: Möbius values over the divisors, the rank (Lemma 9) and the number of Lyndon words; the order
 -- of summation does not matter, so that from n downwards (Example 10) the sum is the same; and no running sum is large.
 pub record Summed : Type 0 where
@@ -416,6 +436,7 @@ pub record Theorems : Type 0 where
   pub laid-at : Laid-at
   pub smudged : Smudged
   pub misread : Misread
+  pub priced : Priced
   pub summed : Summed
   pub floors : Floors
   pub ends : (ok : ℕ → Bool) (k n : ℕ) → 1 ≤ n → Allowed n ok → Ends ok k n
