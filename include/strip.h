@@ -1,4 +1,4 @@
-/* Position strips: ranks of Lyndon words, marks and places on a strip, pictures of it, places in a laying plan, and misreadings there.
+/* Position strips: ranks of Lyndon words, marks and places on a strip, pictures of it, places in a laying plan, misreadings there, and its bill.
 
    A strip of k shades and windows of n marks joins, in dictionary order, all Lyndon words whose length divides n. It has k^n marks, at
    places 0 to k^n - 1, and goes round: after the last comes the first. Every window of n marks is read at exactly one place.
@@ -8,7 +8,7 @@
    a tray behind the answer are never touched. A number in a tray has its highest byte first.
 
    A call may come with any numbers and with any bytes in its slices; if several refusals apply, the first in the order
-   7, 1, 12, 8, 2, 11, 3, 4, 13, 5, 9, 6 is given. No call here gives 10, a lost cursor. What the caller must promise, since C cannot check
+   7, 1, 12, 8, 14, 15, 2, 11, 3, 4, 13, 5, 9, 6 is given. No call here gives 10, a lost cursor. What the caller must promise, since C cannot check
    it: each pointer is valid for its length (a null pointer only with length 0), and no tray overlaps another slice. The calls keep no state
    and may run in several threads at once, each with its own trays.
 
@@ -34,7 +34,7 @@ extern "C" {
 
 /* The major number rises with a change that a host must react to, the minor number with a new call, or where a call promises more. */
 #define STRIP_VERSION_MAJOR 3
-#define STRIP_VERSION_MINOR 2
+#define STRIP_VERSION_MINOR 3
 
 /* Limits: k from 2, n from 1, and k^n at most 2^60; sections of a plan, and the bytes of its longest record. */
 #define STRIP_MOST_SHADES 36
@@ -58,6 +58,13 @@ extern "C" {
 #define STRIP_UNREAD 255
 #define STRIP_MOST_UNREAD 2
 
+/* Bills: the longest section in marks, the highest price of a mark in thousandths of a cent, the highest charge for a section in cents, and the highest bill
+   in cents, which is below 2^55. */
+#define STRIP_MOST_ROLL UINT64_C(4294967295)
+#define STRIP_MOST_PRICE UINT64_C(10000000)
+#define STRIP_MOST_CHARGE UINT64_C(4294967295)
+#define STRIP_MOST_BILL (STRIP_MOST_SECTIONS * (STRIP_MOST_ROLL * (STRIP_MOST_PRICE / 1000) + STRIP_MOST_CHARGE)) /* 21,476,983,958,647,500 */
+
 /* Numbers that a call returns. */
 enum {
     STRIP_FINE = 0,
@@ -72,7 +79,9 @@ enum {
     STRIP_NOT_LAID = 9,             /* neither in a section nor across a welded joint; nor is a window that agrees */
     STRIP_TOO_SMUDGED = 11,         /* three or more marks were not read */
     STRIP_TWO_SHADES_ONLY = 12,     /* a picture of a strip with more than two shades */
-    STRIP_BAD_PICTURE = 13          /* a picture's width or height is outside the limits */
+    STRIP_BAD_PICTURE = 13,         /* a picture's width or height is outside the limits */
+    STRIP_ROLL_TOO_LONG = 14,       /* a section of a plan that is billed has more than 4,294,967,295 marks */
+    STRIP_NO_SUCH_PRICE = 15        /* a price is above 10,000,000, or a charge above 4,294,967,295 */
 };
 
 /* What a returned number means, in words. */
@@ -91,6 +100,8 @@ static inline const char *strip_meaning(unsigned number) {
     case STRIP_TOO_SMUDGED: return "too smudged";
     case STRIP_TWO_SHADES_ONLY: return "two shades only";
     case STRIP_BAD_PICTURE: return "bad picture";
+    case STRIP_ROLL_TOO_LONG: return "roll too long";
+    case STRIP_NO_SUCH_PRICE: return "no such price";
     }
     return "refused";
 }
@@ -192,6 +203,21 @@ uint8_t look_up_smudged(const uint8_t *plan, size_t plan_len, const uint8_t *win
    as 1 it is 1111, at place 12, and with mark 3 read as 0 it is 1010, at place 8. The other two changes give 0011 and 1001, which are not laid. */
 uint8_t misreadings_of(const uint8_t *plan, size_t plan_len, const uint8_t *window, size_t window_len, uint8_t *count, size_t count_len, uint8_t *tray,
                        size_t tray_len);
+
+/* The bill of a laying plan, of either record, in cents. A section, a roll of strip, costs its length times the price of a mark, which is given in
+   thousandths of a cent, rounded up to a whole cent if it is none already, and the charge, in cents, besides. Each section is rounded by itself, and
+   the bill is their sum: with price 1 and no charge, one section of 1,001 marks costs 2, and two such cost 4. Gaps between sections cost nothing, and
+   a plan without sections costs 0. Tray: 8 bytes, which hold any bill: none is above STRIP_MOST_BILL. Refusals: 7, 1, 8, 14, 15, 6; 15 also if there
+   is no section.
+
+   Example. With the plan of look_up, whose sections have 6 and 8 marks, at 250 thousandths a mark and with a charge of 100:
+
+       uint8_t bill[STRIP_NUMBER];
+       bill_of(plan, sizeof plan, 250, 100, bill, sizeof bill);
+
+   returns 0 and leaves 0 0 0 0 0 0 0 204 in the tray: the marks of the first section cost 1.5 cents, which is 2, those of the second 2 cents, which
+   stays 2, and each section 100 more. */
+uint8_t bill_of(const uint8_t *plan, size_t plan_len, uint64_t price, uint64_t charge, uint8_t *tray, size_t tray_len);
 
 #ifdef __cplusplus
 }

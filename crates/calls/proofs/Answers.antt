@@ -114,6 +114,16 @@ number-answer v t h l e g = into-answer (putBe 8 v) t h l e g
 pub number-given : {f r v x : ℕ} (t : List ℕ) {t′ : List ℕ} → f ≡ 0 → x ≡ v → Number 0 x t t′ r → Number f v t t′ r
 number-given t h e g = into-given t h (ap (putBe 8) e) g
 
+-- a number and a value, then the value's 8 bytes into a tray
+module _ (f v : ℕ) (t : List ℕ) {a : DV.Value} (e : ValueIs f v a) where
+  pub value-untold : ¬ (a .number ≡ 0) → Number f v t t (a .number)
+  value-untold some = into-refused (putBe 8 v) t (sym (e .0)) some refl
+
+  pub value-told : {t′ : List ℕ} {r : ℕ} → a .number ≡ 0 → Number 0 (a .value) t t′ r → Number f v t t′ r
+  value-told z g =
+      let fine : f ≡ 0 = sym (e .0) ∙ z in
+      number-given t fine (rw fine at e .1) g
+
 -- bytes written over the first part of a tray
 pub part-over : {b x : List ℕ} {n : ℕ} (t : List ℕ) → x ≡ b → length b ≡ n → x ++ drop n t ≡ over b t
 part-over {b} t e h = ap₂ (λ y m. y ++ drop m t) e (sym h)

@@ -85,6 +85,10 @@ cursor-number a b = in-order (rule 1 a ∷ rule 10 b ∷ []) (simp first-zero) r
 pub plan-number : (a b c : Bool) → firstOf (when a 7) (firstOf (when b 1) (when c 8)) ≡ given (rule 7 a ∷ rule 1 b ∷ rule 8 c ∷ [])
 plan-number a b c = in-order (rule 7 a ∷ rule 1 b ∷ rule 8 c ∷ []) (simp first-zero) refl
 
+pub bill-number : (t s k l p : Bool)
+    → firstOf (firstOf (when t 7) (firstOf (when s 1) (when k 8))) (firstOf (when l 14) (when p 15)) ≡ given (rule 7 t ∷ rule 1 s ∷ rule 8 k ∷ rule 14 l ∷ rule 15 p ∷ [])
+bill-number t s k l p = in-order (rule 7 t ∷ rule 1 s ∷ rule 8 k ∷ rule 14 l ∷ rule 15 p ∷ []) (simp (first-assoc, first-zero)) refl
+
 -- with a tray
 pub word-tray-number : (a b c d : Bool)
     → firstOf (firstOf (when a 1) (firstOf (when b 2) (when c 3))) (when d 6) ≡ given (rule 1 a ∷ rule 2 b ∷ rule 3 c ∷ rule 6 d ∷ [])
@@ -111,3 +115,8 @@ smudged-tray-number t s k b e c l d =
 pub picture-tray-number : (a b c e d : Bool)
     → firstOf (firstOf (when a 1) (firstOf (when b 12) (firstOf (when c 4) (when e 13)))) (when d 6) ≡ given (rule 1 a ∷ rule 12 b ∷ rule 4 c ∷ rule 13 e ∷ rule 6 d ∷ [])
 picture-tray-number a b c e d = in-order (rule 1 a ∷ rule 12 b ∷ rule 4 c ∷ rule 13 e ∷ rule 6 d ∷ []) (simp (first-assoc, first-zero)) refl
+
+pub bill-tray-number : (t s k l p d : Bool)
+    → firstOf (firstOf (firstOf (when t 7) (firstOf (when s 1) (when k 8))) (firstOf (when l 14) (when p 15))) (when d 6)
+    ≡ given (rule 7 t ∷ rule 1 s ∷ rule 8 k ∷ rule 14 l ∷ rule 15 p ∷ rule 6 d ∷ [])
+bill-tray-number t s k l p d = in-order (rule 7 t ∷ rule 1 s ∷ rule 8 k ∷ rule 14 l ∷ rule 15 p ∷ rule 6 d ∷ []) (simp (first-assoc, first-zero)) refl

@@ -7,7 +7,8 @@ use Prim.Native.Nat.{ℕ, _^_}
 use lib.Dec.{eqb, ltb, leb}
 use Rattle.theory.specs.Words.{firstOf, when, howMany}
 use Rattle.theory.specs.Strips.{stripFault}
-use Rattle.theory.specs.Plans.{wordFault}
+use Rattle.theory.specs.Plans.{sections, planFault, wordFault}
+use Rattle.theory.specs.Prices.{shortRolls}
 
 -- 1, then 2: the word does not have n marks, then 3: a mark is k or more
 abbrev pub theWordFault : ℕ → ℕ → List ℕ → ℕ
@@ -27,3 +28,8 @@ framed c h = leb 1 c && (leb c 60000 && (leb 1 h && leb h 64))
 
 abbrev pub pictureFault : ℕ → ℕ → ℕ → ℕ → ℕ → ℕ
 pictureFault k n p c h = firstOf (stripFault k n) (firstOf (when (not (eqb k 2)) 12) (firstOf (when (leb (k ^ n) p) 4) (when (not (framed c h)) 13)))
+
+-- 7, 1, 8, then 14: a section has too many marks, then 15: the price or the charge is too high
+abbrev pub billFault : List ℕ → ℕ → ℕ → ℕ
+billFault s price charge =
+    firstOf (planFault s) (firstOf (when (not (shortRolls (sections s))) 14) (when (ltb 10000000 price || ltb 4294967295 charge) 15))

@@ -4,6 +4,7 @@ ghost use Rattle.ranking.specs.Says.{RankSays, WordSays};
 ghost use Rattle.marks.specs.Says.{MarkSays, PlaceSays, PrintSays};
 ghost use Rattle.lookups.specs.Says.{LookupSays, SmudgedSays};
 ghost use Rattle.misreadings.specs.Says.{MisreadingListSays};
+ghost use Rattle.bills.specs.Says.{BillOfSays};
 ghost use Rattle.pictures.specs.Says.{BothSay};
 
 // The turn from a word to its smallest rotation, as 8 bytes.
@@ -82,6 +83,14 @@ pub extern "C" fn misreadings_of(
     ensures { λ r. ⌜ MisreadingListSays (now (plan .entry)) (now (window .entry)) (now (count .entry)) (now (count .exit)) (now (tray .entry)) (now (tray .exit)) r ⌝ }
 {
     misreadings::misreadings_of(plan, window, count, tray)
+}
+
+// What a plan costs in cents at a price for a mark, in thousandths of a cent, and a charge for a section, in cents; as 8 bytes.
+#[no_mangle]
+pub extern "C" fn bill_of(plan: &[u8], price: u64, charge: u64, tray: &mut [u8]) -> u8
+    ensures { λ r. ⌜ BillOfSays (now (plan .entry)) price charge (now (tray .entry)) (now (tray .exit)) r ⌝ }
+{
+    bills::bill_of(plan, price, charge, tray)
 }
 
 // A picture of the marks from a place on, as a plain PBM file in the tray's first bytes; its size, as 8 bytes in a tray of its own.
