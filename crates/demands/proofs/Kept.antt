@@ -12,6 +12,7 @@ use Rattle.demands.proofs.Marks.{marked, placed, place-back, window-bac
 use Rattle.demands.proofs.Pictures.{picture-back, picture-both, picture-by-rows}
 use Rattle.demands.proofs.Walking.{started, not-started, stands, step, not-stepped, undone, walk, both-ways}
 use Rattle.demands.proofs.Laying.{laid, laid-across, laid-only, smudged, smudged-only, smudged-lowest, smudged-bytes, smudged-plain}
+use Rattle.demands.proofs.Billing.{billed-told, bill-both, bill-same}
 use Rattle.demands.proofs.Misread.{misread-told, misread-answers, misread-both}
 
 pub demands : Demands
@@ -62,4 +63,7 @@ demands = record {
   misread = misread-told;
   misread-answers = misread-answers;
   misread-both = misread-both;
+  billed = billed-told;
+  bill-both = bill-both;
+  bill-same = bill-same;
 }

@@ -8,4 +8,5 @@ pub mod Pictures
 pub mod Walking
 pub mod Laying
 pub mod Misread
+pub mod Billing
 pub mod Kept

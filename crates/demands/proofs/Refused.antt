@@ -14,24 +14,26 @@ use Rattle.theory.specs.Strips.{admitted, window, placeOf, cursorOk}
 use Rattle.theory.specs.Plans.{shades, marks, sections, planFault, wordFault, torn, straightFrom, laidAt, layingOf, lookupFault}
 use Rattle.theory.specs.Theorems.{Lies}
 use Rattle.theory.specs.Erasures.{unread, read, agrees, fitting, smudgedFault}
+use Rattle.theory.specs.Prices.{shortRolls}
 use Rattle.theory.proofs.Base.{test}
 use Rattle.theory.proofs.Lists.{in-some, no-members}
 use Rattle.theory.proofs.Rings.{one-place, admitted-range}
 use Rattle.theory.proofs.Faults.{first-assoc, first-either, word-fine}
 use Rattle.theory.proofs.Laying as theory
 use Rattle.theory.proofs.Erasures.{fitting-in, in-fitting}
+use Rattle.theory.proofs.Prices.{short-sections}
 use Rattle.calls.specs.Order.{rule, given}
 use Rattle.calls.specs.Answers.{orShort}
-use Rattle.calls.specs.Refusals.{theWordFault, indexFault, placeFault, framed, pictureFault}
+use Rattle.calls.specs.Refusals.{theWordFault, indexFault, placeFault, framed, pictureFault, billFault}
 use Rattle.calls.proofs.Order.{given-none, given-first}
 use Rattle.pbm.specs.Pictures.{fileSize}
 use Rattle.lookups.specs.Says.{answerSize}
 use Rattle.misreadings.specs.Says.{listSize}
 use Rattle.cursors.specs.declared.Cursor as DC
 use Rattle.cursors.specs.Cursors.{cursorIn, tidy, cursorFault}
-use Rattle.demands.specs.Refused.{markRules, wordRules, placeRules, indexRules, cursorRules, planRules, layingRules, smudgedRules, pictureRules, trayRules, Refusals}
-use Rattle.demands.proofs.Trays.{answer-number, rotation-answers, turn-answers, rank-answers, word-answers, mark-answers, place-answers, print-answers, picture-answers, picture-of-answers, look-up-answers, smudged-answers, misreadings-answers, misreadings-of-answers}
-use Rattle.calls.proofs.Numbers.{strip-number, marks-number, word-number, place-number, cursor-number, plan-number, word-tray-number, place-tray-number, index-tray-number, laying-tray-number, smudged-tray-number, picture-tray-number}
+use Rattle.demands.specs.Refused.{markRules, wordRules, placeRules, indexRules, cursorRules, planRules, layingRules, smudgedRules, pictureRules, billRules, trayRules, Refusals}
+use Rattle.demands.proofs.Trays.{answer-number, rotation-answers, turn-answers, rank-answers, word-answers, mark-answers, place-answers, print-answers, picture-answers, picture-of-answers, look-up-answers, smudged-answers, misreadings-answers, misreadings-of-answers, bill-answers}
+use Rattle.calls.proofs.Numbers.{strip-number, marks-number, word-number, place-number, cursor-number, plan-number, bill-number, word-tray-number, place-tray-number, index-tray-number, laying-tray-number, smudged-tray-number, picture-tray-number, bill-tray-number}
 
 -- the faults of each kind of argument, alone and with a tray of m bytes
 word-given : (k n : ℕ) (w : List ℕ) → theWordFault k n w ≡ given (wordRules k n w)
@@ -74,6 +76,16 @@ smudged-tray : (s w t : List ℕ) (m : ℕ) → firstOf (smudgedFault s w) (when
 smudged-tray s w t m =
     smudged-tray-number (torn s) (not (admitted (shades s) (marks s))) (not (straightFrom (marks s) (shades s ^ marks s) 0 (sections s)))
     (not (eqb (length w) (marks s))) (ltb 2 (length (keep unread w))) (not (marksOk (shades s) (keep read w))) (eqb (length (fitting s w)) 0) (ltb (length t) m)
+
+bill-given : (s : List ℕ) (p c : ℕ) → billFault s p c ≡ given (billRules s p c)
+bill-given s p c =
+    bill-number (torn s) (not (admitted (shades s) (marks s))) (not (straightFrom (marks s) (shades s ^ marks s) 0 (sections s)))
+    (not (shortRolls (sections s))) (ltb 10000000 p || ltb 4294967295 c)
+
+bill-tray : (s : List ℕ) (p c : ℕ) (t : List ℕ) → firstOf (billFault s p c) (when (ltb (length t) 8) 6) ≡ given (billRules s p c ++ trayRules t 8)
+bill-tray s p c t =
+    bill-tray-number (torn s) (not (admitted (shades s) (marks s))) (not (straightFrom (marks s) (shades s ^ marks s) 0 (sections s)))
+    (not (shortRolls (sections s))) (ltb 10000000 p || ltb 4294967295 c) (ltb (length t) 8)
 
 -- a smudged window with which no laid one agrees
 none-agrees : (s w : List ℕ) → (length (fitting s w) ≡ 0) ↔ ((p : ℕ) → p < shades s ^ marks s → laidAt s p ≡ true → agrees w (window (shades s) (marks s) p) ≡ false)
@@ -133,10 +145,13 @@ refusals = record {
   look-up-smudged = λ s w t t′ r e. answer-number (smudged-answers s w t t′ r e) ∙ smudged-tray s w t answerSize;
   misreadings = λ s w t t′ r e. answer-number (misreadings-answers s w t t′ r e) ∙ laying-tray s w (ltb (length t) (listSize s w));
   misreadings-of = λ s w c c′ t t′ r e. answer-number (misreadings-of-answers s w c c′ t t′ r e) ∙ two-trays (lookupFault s w) c t (listSize s w) ∙ laying-tray s w (ltb (length c) 8 || ltb (length t) (listSize s w));
+  bill = λ s p c r e. e .0 ∙ bill-given s p c;
+  bill-of = λ s p c t t′ r e. answer-number (bill-answers s p c t t′ r e) ∙ bill-tray s p c t;
   start-cursor = λ k n p r e. e .0 ∙ place-given k n p;
   cursor-place = λ c r e. e .0 ∙ cursor-given c;
   step = λ c r e. e .0 ∙ cursor-given c;
   step-back = λ c r e. e .0 ∙ cursor-given c;
   not-laid = not-laid;
   none-agrees = none-agrees;
+  no-long-roll = short-sections;
 }

@@ -12,9 +12,10 @@ use lib.Seq.{drop-append-seam}
 use borrow.Author.Tests.{le-ltb, ltb-false, ne-eqb}
 use Rattle.theory.specs.Words.{pick, firstOf, when, smallest, leastTurn, wordOf, rank}
 use Rattle.theory.specs.Strips.{admitted, stripFault, markAt, marksFrom, placeOf, strip}
-use Rattle.theory.specs.Plans.{be, shades, marks, lookupFault}
+use Rattle.theory.specs.Plans.{be, shades, marks, sections, lookupFault}
 use Rattle.theory.specs.Erasures.{lowest, smudgedFault}
 use Rattle.theory.specs.Substitutions.{misread}
+use Rattle.theory.specs.Prices.{costOf}
 use Rattle.theory.proofs.Base.{test}
 use Rattle.theory.proofs.Necklaces.{smallest-length}
 use Rattle.theory.proofs.Reading.{letters-length}
@@ -26,7 +27,7 @@ use Rattle.buffers.proofs.Bytes.{over-length}
 use Rattle.numbers.proofs.Numbers.{put-read}
 use Rattle.calls.specs.declared.Value as DV
 use Rattle.calls.specs.Answers.{Into, IntoValue, orShort, IntoBoth, Number, ValueIs}
-use Rattle.calls.specs.Refusals.{theWordFault, indexFault, placeFault, pictureFault}
+use Rattle.calls.specs.Refusals.{theWordFault, indexFault, placeFault, pictureFault, billFault}
 use Rattle.calls.proofs.Answers.{number-answer}
 use Rattle.ranking.proofs.Indexes.{index-range, index-long}
 use Rattle.words.specs.Says.{RotationSays, TurnSays}
@@ -38,6 +39,7 @@ use Rattle.pictures.proofs.Framing.{file-long}
 use Rattle.lookups.specs.Says.{answerAt, answerSize, LookupSays, SmudgedSays}
 use Rattle.substitutions.proofs.Writing.{entries-long}
 use Rattle.misreadings.specs.Says.{entriesOf, listSize, MisreadingsSays, MisreadingListSays}
+use Rattle.bills.specs.Says.{BillOfSays}
 use Rattle.demands.specs.Trays.{Keeps, Trays}
 
 -- no fault, so the answer over the start of the tray
@@ -189,6 +191,9 @@ misreadings-answers s w t t′ r e = answers (entriesOf s w) (λ _. entries-long
 pub misreadings-of-answers : (s w c c′ t t′ : List ℕ) (r : ℕ) → MisreadingListSays s w c c′ t t′ r → Answers (listSize s w) (orShort (lookupFault s w) c) t t′ r
 misreadings-of-answers s w c c′ t t′ r e = answers (entriesOf s w) (λ _. entries-long s w (misread s w)) (e .0)
 
+pub bill-answers : (s : List ℕ) (p c : ℕ) (t t′ : List ℕ) (r : ℕ) → BillOfSays s p c t t′ r → Answers 8 (billFault s p c) t t′ r
+bill-answers s p c t t′ r e = answers (putBe 8 (costOf p c (sections s))) (λ _. refl) e
+
 pub trays : Trays
 trays = record {
   smallest-rotation = λ k n w t t′ r e. keeps (rotation-answers k n w t t′ r e);
@@ -204,4 +209,5 @@ trays = record {
   look-up-smudged = λ s w t t′ r e. keeps (smudged-answers s w t t′ r e);
   misreadings = λ s w t t′ r e. keeps (misreadings-answers s w t t′ r e);
   misreadings-of = λ s w c c′ t t′ r e. (value-keeps (lookupFault s w) (length (misread s w)) (entriesOf s w) c c′ t t′ r e, keeps (misreadings-of-answers s w c c′ t t′ r e));
+  bill-of = λ s p c t t′ r e. keeps (bill-answers s p c t t′ r e);
 }

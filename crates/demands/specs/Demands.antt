@@ -1,5 +1,5 @@
 -- The three demands as one record: the theorems about the definitions, and what follows for the bytes that the calls leave in trays.
--- A call's promise says what it gives for every argument (specs/Says of words, ranking, marks, pictures, lookups and misreadings; Cursors of cursors): here it stands as a premise.
+-- A call's promise says what it gives for every argument (specs/Says of words, ranking, marks, pictures, lookups, misreadings and bills; Cursors of cursors): here it stands as a premise.
 use mathlib.Core.Path.{_≡_}
 use mathlib.Core.Bool.{Bool, true, not}
 use mathlib.Core.List.{List, [], _∷_, _++_}
@@ -15,7 +15,8 @@ use Rattle.theory.specs.Strips.{admitted, strip, markAt, marksFrom, window, pla
 use Rattle.theory.specs.Plans.{be, shades, marks, sectionCount, sections, welded, nthS, planFault, railOf, layingAt, laidAt}
 use Rattle.theory.specs.Erasures.{unread, agrees}
 use Rattle.theory.specs.Substitutions.{Change, change, changed, keyOf}
-use Rattle.theory.specs.Theorems.{Lies, Theorems}
+use Rattle.theory.specs.Prices.{costOf}
+use Rattle.theory.specs.Theorems.{Alike, Lies, Theorems}
 use Rattle.buffers.specs.Buffers.{over}
 use Rattle.numbers.specs.Numbers.{putBe}
 use Rattle.calls.specs.declared.Value as DV
@@ -30,6 +31,7 @@ use Rattle.pictures.specs.Says.{PictureSays, BothSay}
 use Rattle.pictures.specs.Requests.{pictureFor, PartsSay}
 use Rattle.lookups.specs.Says.{answerSize, LookupSays, SmudgedSays}
 use Rattle.misreadings.specs.Says.{MisreadingsSays, MisreadingListSays}
+use Rattle.bills.specs.Says.{BillSays, BillOfSays}
 use Rattle.listing.specs.Listings.{Same-listing}
 use Rattle.sheets.specs.Worksheets.{sheetLine, worksheet, Sheets}
 use Rattle.cursors.specs.declared.Cursor as DC
@@ -208,3 +210,11 @@ pub record Demands : Type 0 where
   -- misreadings_of, with 8 bytes for the number of entries, gives the same number, the same list, and as many entries
   pub misread-both : (s w c c′ t t′ u : List ℕ) (r : DV.Value) (q : ℕ) → 8 ≤ length c → MisreadingsSays s w t t′ r → MisreadingListSays s w c c′ t u q
       → (q ≡ r .number) × (u ≡ t′) × (q ≡ 0 → be 0 8 c′ ≡ r .value)
+  -- Bills: bill answers what the sections cost, of each accepted plan without a long one, at each price and charge up to their limits; it fits 55 bits
+  pub billed : (s : List ℕ) (p c : ℕ) (r : DV.Value) → planFault s ≡ 0 → ((i : ℕ) → i < sectionCount s → nthS (sections s) i .long ≤ 4294967295)
+      → p ≤ 10000000 → c ≤ 4294967295 → BillSays s p c r → (r .number ≡ 0) × (r .value ≡ costOf p c (sections s)) × (r .value < 2 ^ 55)
+  -- bill_of, with 8 bytes, gives the same number and the same bill, and no byte after it
+  pub bill-both : (s : List ℕ) (p c : ℕ) (t t′ : List ℕ) (r : DV.Value) (q : ℕ) → 8 ≤ length t → BillSays s p c r → BillOfSays s p c t t′ q
+      → (q ≡ r .number) × (q ≡ 0 → be 0 8 t′ ≡ r .value) × (drop 8 t′ ≡ drop 8 t)
+  -- plans with the same strip and sections have the same bill, whatever their records and rails, or the same refusal
+  pub bill-same : (s u : List ℕ) (p c : ℕ) (r q : DV.Value) → Alike s u → BillSays s p c r → BillSays u p c q → (r .number ≡ q .number) × (r .value ≡ q .value)

@@ -4,15 +4,16 @@ use mathlib.Core.Path.{_≡_}
 use mathlib.Core.Bool.{true, false, _&&_, _||_, not}
 use mathlib.Core.List.{List, [], _∷_, _++_}
 use mathlib.Core.Logic.{_↔_, _≢_}
-use Prim.Native.Nat.{ℕ, _+_, _^_, _<_}
+use Prim.Native.Nat.{ℕ, _+_, _^_, _≤_, _<_}
 use lib.Dec.{eqb, ltb, leb}
 use lib.ListN.{length}
 use Rattle.theory.specs.Words.{howMany, keep, marksOk}
 use Rattle.theory.specs.Lists.{In}
 use Rattle.theory.specs.Strips.{admitted, window, cursorOk}
-use Rattle.theory.specs.Plans.{shades, marks, sections, torn, straightFrom, laidAt, layingOf}
+use Rattle.theory.specs.Plans.{shades, marks, sectionCount, sections, nthS, torn, straightFrom, laidAt, layingOf}
 use Rattle.theory.specs.Theorems.{Lies}
 use Rattle.theory.specs.Erasures.{unread, read, agrees, fitting}
+use Rattle.theory.specs.Prices.{shortRolls}
 use Rattle.calls.specs.declared.Value as DV
 use Rattle.calls.specs.Order.{order, Rule, rule, appliesIn, given}
 use Rattle.words.specs.Says.{LyndonSays, RotationSays, TurnSays, RootSays}
@@ -22,6 +23,7 @@ use Rattle.pbm.specs.Pictures.{fileSize}
 use Rattle.pictures.specs.Says.{PictureSays, BothSay}
 use Rattle.lookups.specs.Says.{answerSize, PlanSays, LookupSays, SmudgedSays}
 use Rattle.misreadings.specs.Says.{listSize, MisreadingsSays, MisreadingListSays}
+use Rattle.bills.specs.Says.{BillSays, BillOfSays}
 use Rattle.cursors.specs.declared.Cursor as DC
 use Rattle.cursors.specs.declared.Started as DS
 use Rattle.cursors.specs.declared.Stepped as DT
@@ -65,6 +67,10 @@ abbrev pub pictureRules : ℕ → ℕ → ℕ → ℕ → ℕ → List Rule
 pictureRules k n p c h =
     stripRules k n ++ (rule 12 (not (eqb k 2)) ∷ rule 4 (leb (k ^ n) p) ∷ rule 13 (not (leb 1 c && (leb c 60000 && (leb 1 h && leb h 64)))) ∷ [])
 
+-- a bill: roll too long, no such price
+abbrev pub billRules : List ℕ → ℕ → ℕ → List Rule
+billRules s p c = planRules s ++ (rule 14 (not (shortRolls (sections s))) ∷ rule 15 (ltb 10000000 p || ltb 4294967295 c) ∷ [])
+
 -- tray too small for b bytes; one of two trays
 abbrev pub trayRules : List ℕ → ℕ → List Rule
 trayRules t b = rule 6 (ltb (length t) b) ∷ []
@@ -96,6 +102,8 @@ pub record Refusals : Type 0 where
   pub look-up-smudged : (s w t t′ : List ℕ) (r : ℕ) → SmudgedSays s w t t′ r → r ≡ given (smudgedRules s w ++ trayRules t answerSize)
   pub misreadings : (s w t t′ : List ℕ) (r : DV.Value) → MisreadingsSays s w t t′ r → r .number ≡ given (layingRules s w ++ trayRules t (listSize s w))
   pub misreadings-of : (s w c c′ t t′ : List ℕ) (r : ℕ) → MisreadingListSays s w c c′ t t′ r → r ≡ given (layingRules s w ++ traysRules c 8 t (listSize s w))
+  pub bill : (s : List ℕ) (p c : ℕ) (r : DV.Value) → BillSays s p c r → r .number ≡ given (billRules s p c)
+  pub bill-of : (s : List ℕ) (p c : ℕ) (t t′ : List ℕ) (r : ℕ) → BillOfSays s p c t t′ r → r ≡ given (billRules s p c ++ trayRules t 8)
   pub start-cursor : (k n p : ℕ) (r : DS.Started) → StartSays k n p r → r .number ≡ given (placeRules k n p)
   pub cursor-place : (c : DC.Cursor) (r : DV.Value) → WhereSays c r → r .number ≡ given (cursorRules c)
   pub step : (c : DC.Cursor) (r : DT.Stepped) → StepSays c r → r .number ≡ given (cursorRules c)
@@ -106,3 +114,5 @@ pub record Refusals : Type 0 where
   -- and for a smudged window just when no laid window agrees with it
   pub none-agrees : (s w : List ℕ)
       → (length (fitting s w) ≡ 0) ↔ ((p : ℕ) → p < shades s ^ marks s → laidAt s p ≡ true → agrees w (window (shades s) (marks s) p) ≡ false)
+  -- 14 does not apply just when every section has 4,294,967,295 marks at most
+  pub no-long-roll : (s : List ℕ) → (shortRolls (sections s) ≡ true) ↔ ((i : ℕ) → i < sectionCount s → nthS (sections s) i .long ≤ 4294967295)

@@ -12,6 +12,7 @@ use Rattle.pbm.specs.Pictures.{fileSize}
 use Rattle.pictures.specs.Says.{PictureSays, BothSay}
 use Rattle.lookups.specs.Says.{answerSize, LookupSays, SmudgedSays}
 use Rattle.misreadings.specs.Says.{listSize, MisreadingsSays, MisreadingListSays}
+use Rattle.bills.specs.Says.{BillOfSays}
 
 -- with an answer of b bytes: a refusal leaves the tray as it was, its length never changes, and the bytes after the first b stay
 abbrev pub Keeps : ℕ → List ℕ → List ℕ → ℕ → Type 0
@@ -31,3 +32,4 @@ pub record Trays : Type 0 where
   pub look-up-smudged : (s w t t′ : List ℕ) (r : ℕ) → SmudgedSays s w t t′ r → Keeps answerSize t t′ r
   pub misreadings : (s w t t′ : List ℕ) (r : DV.Value) → MisreadingsSays s w t t′ r → Keeps (listSize s w) t t′ (r .number)
   pub misreadings-of : (s w c c′ t t′ : List ℕ) (r : ℕ) → MisreadingListSays s w c c′ t t′ r → Keeps 8 c c′ r × Keeps (listSize s w) t t′ r
+  pub bill-of : (s : List ℕ) (p c : ℕ) (t t′ : List ℕ) (r : ℕ) → BillOfSays s p c t t′ r → Keeps 8 t t′ r
