@@ -4,13 +4,14 @@
 #include "../include/strip.h"
 #include "lent.h"
 
-enum { TURN, RANK, WORD, MARK, PLACE, PRINT, PICTURE, LOOK, SMUDGED, MISREAD, CALLS };
+enum { TURN, RANK, WORD, MARK, PLACE, PRINT, PICTURE, LOOK, SMUDGED, MISREAD, BILL, CALLS };
 enum { MOST_BYTES = 1 << 14, MOST_ANSWER = 1 << 22, MOST_TRAY = 64 };
-static const char *const NAMES[CALLS] = {"turn", "rank", "word", "mark", "place", "print", "picture", "look", "smudged", "misread"};
+static const char *const NAMES[CALLS] = {"turn", "rank", "word", "mark", "place", "print", "picture", "look", "smudged", "misread", "bill"};
 
 struct vector {
     int call;
     uint64_t k, n, number, marks, height; /* the marks of a picture are its width */
+    uint64_t price, charge;
     size_t input_length, plan_length, answer_length;
     uint8_t input[MOST_BYTES], plan[MOST_BYTES], answer[MOST_ANSWER];
     unsigned refusal;
@@ -88,14 +89,15 @@ static void parse(char *line) {
     while (v.call < CALLS && strcmp(name, NAMES[v.call]) != 0) v.call++;
     if (v.call == CALLS) bad_line("no such call");
     v.input_length = v.plan_length = 0;
-    int of_plan = v.call == LOOK || v.call == SMUDGED || v.call == MISREAD;
-    if (of_plan) {
+    int of_window = v.call == LOOK || v.call == SMUDGED || v.call == MISREAD;
+    if (of_window || v.call == BILL) {
         v.plan_length = bytes_field(v.plan, MOST_BYTES);
     } else {
         v.k = number_field();
         v.n = number_field();
     }
-    if (of_plan || v.call == TURN || v.call == RANK || v.call == PLACE) v.input_length = bytes_field(v.input, MOST_BYTES);
+    if (v.call == BILL) v.price = number_field(), v.charge = number_field();
+    else if (of_window || v.call == TURN || v.call == RANK || v.call == PLACE) v.input_length = bytes_field(v.input, MOST_BYTES);
     else v.number = number_field();
     if (v.call == PRINT || v.call == PICTURE) v.marks = number_field();
     if (v.call == PICTURE) v.height = number_field();
@@ -117,6 +119,7 @@ static unsigned call(const struct lent *input, const struct lent *plan, const st
     case SMUDGED: return look_up_smudged(plan->bytes, plan->length, input->bytes, input->length, tray->bytes, tray->length);
     case MISREAD:
         return misreadings_of(plan->bytes, plan->length, input->bytes, input->length, count->bytes, count->length, tray->bytes, tray->length);
+    case BILL: return bill_of(plan->bytes, plan->length, v.price, v.charge, tray->bytes, tray->length);
     }
     exit(2);
 }
@@ -171,6 +174,11 @@ static void compare_all(unsigned long line) {
         compare(v.answer_length - 2, line); /* as long as an answer without a rail */
         compare(v.answer_length - 3, line);
         compare(v.answer_length + 1, line);
+    }
+    if (v.call == BILL) {
+        compare(0, line);
+        compare(v.answer_length + 1, line);
+        compare(STRIP_LAYING, line); /* as long as a lookup's answer */
     }
     compare(v.answer_length + 3, line);
     if (v.call == MISREAD && v.answer_length != 0) compare(v.answer_length - STRIP_ENTRY, line); /* as long as the list without an entry */

@@ -6,17 +6,20 @@
     word  K N INDEX       REFUSAL ANSWER        look  PLAN WINDOW     REFUSAL ANSWER
     place K N WINDOW      REFUSAL ANSWER        picture K N PLACE WIDTH HEIGHT REFUSAL ANSWER
     smudged PLAN WINDOW   REFUSAL ANSWER        misread PLAN WINDOW   REFUSAL ANSWER, the list, which may be empty
+    bill PLAN PRICE CHARGE REFUSAL ANSWER
 
 Bytes are written in hexadecimal, no bytes as "-". An optional argument is the most places of a small strip, of which all is printed.
-Fails if there are too few smudged windows that tell the lowest place from what a lookup might give by mistake.
+Fails if there are too few smudged windows that tell the lowest place from what a lookup might give by mistake, or too few bills that tell the
+right one from mistakes of theirs.
 """
 import random
 import sys
 from collections import Counter, defaultdict, namedtuple
 from itertools import combinations, product
+from math import ceil
 
 import model
-from model import LARGE, UNREAD, admitted, filling_places, letters, plan_bytes, small_strips, strip_of
+from model import LARGE, MOST_CHARGE, MOST_PRICE, MOST_ROLL, UNREAD, admitted, filling_places, letters, plan_bytes, small_strips, strip_of
 
 HUGE = (2**60, 2**60 + 1, 2**63, 2**64 - 1)
 
@@ -77,6 +80,13 @@ def misread(plan, window):
     print("misread", text(plan), text(window), fault, text(answer))
 
 
+def bill(plan, price, charge):
+    fault, answer = model.bill_of(plan, price, charge)
+    print("bill", text(plan), price, charge, fault, text(answer))
+    if fault != 7:
+        tally_bill(plan, price, charge, fault, int.from_bytes(answer, "big"))
+
+
 def on_word(k, n, marks_):
     turn(k, n, marks_)
     rank(k, n, marks_)
@@ -123,10 +133,70 @@ def tally(plan, window):
 
 
 def check_tally():
-    """Each kind came often, on the small strips, on each large one and with many sections; a place of a small strip is the same in 32 bits."""
+    """Each kind came often, on the small strips, on each large one and with many sections; a place of a small strip is the same in 32 bits. Of the bills
+    too, of both records."""
     del tallied[SMALL]["the lowest place in 32 bits"]
-    for group, often in [(SMALL, 300), (MANY, 20)] + [(strip, 10) for strip in LARGE]:
+    for group, often in [(SMALL, 300), (MANY, 20)] + [(strip, 10) for strip in LARGE] + [(record, 20) for record in RECORDS]:
         assert min(tallied[group].values()) >= often, (group, tallied[group])
+
+
+# What the bills tell
+
+def each(cost):
+    """A bill that has for each section the charge and what its marks cost, by their number and the price."""
+    return lambda lengths, price, charge: sum(cost(length, price) + charge for length in lengths)
+
+
+def raised(thousandths):
+    return -(-thousandths // 1000)
+
+
+right_bill = each(lambda length, price: raised(length * price))
+# what a bill might come to by mistake, by the sections' lengths, the price and the charge
+WRONG_BILLS = {
+    "rounded once": lambda lengths, price, charge: raised(sum(lengths) * price) + len(lengths) * charge,
+    "rounded down": each(lambda length, price: length * price // 1000),
+    "rounded to the nearest": each(lambda length, price: (length * price + 500) // 1000),
+    "whole cents raised": each(lambda length, price: length * price // 1000 + 1),
+    "one charge for the plan": lambda lengths, price, charge: right_bill(lengths, price, 0) + charge,
+    "the charge in thousandths": lambda lengths, price, charge: sum(raised(length * price + charge) for length in lengths),
+    "without the first section": lambda lengths, price, charge: right_bill(lengths[1:], price, charge),
+    "without the last section": lambda lengths, price, charge: right_bill(lengths[:-1], price, charge),
+    "without the sections from 256 on": lambda lengths, price, charge: right_bill(lengths[:256], price, charge),
+    "the product in 32 bits": each(lambda length, price: raised(length * price % 2**32)),
+    "the product as a double": each(lambda length, price: ceil(float(length) * price / 1000)),
+    "the sum in 32 bits": lambda lengths, price, charge: right_bill(lengths, price, charge) % 2**32,
+}
+RECORDS = ("bills of old records", "bills of new records")
+
+
+def tally_bill(plan, price, charge, fault, cents):
+    """Counts the kinds of a bill that is not of a torn record, by the mistakes that would give another number or other cents."""
+    faults, lengths = model.bill_faults(plan, price, charge), model.lengths_of(plan)
+    longest, fair_price, fair_charge = max(lengths, default=0), price <= MOST_PRICE, charge <= MOST_CHARGE
+    kinds = {"%d before %d" % (later, sooner): fault == sooner and later in faults for sooner, later in ((1, 14), (1, 15), (8, 14), (8, 15), (14, 15))}
+    kinds.update({
+        "the longest section refused": fault == 0 and longest == MOST_ROLL,
+        "the highest price refused": fault == 0 and price == MOST_PRICE,
+        "the highest charge refused": fault == 0 and charge == MOST_CHARGE,
+        "a mark more taken": fault == 14 and longest == MOST_ROLL + 1,
+        "a price one higher taken": fault == 15 and price == MOST_PRICE + 1 and fair_charge,
+        "a charge one higher taken": fault == 15 and charge == MOST_CHARGE + 1 and fair_price,
+        "limits exchanged, and taken": fault == 15 and price <= MOST_CHARGE and charge <= MOST_PRICE,
+        "limits exchanged, and refused": fault == 0 and charge > MOST_PRICE,
+        "the price in 32 bits": fault == 15 and price % 2**32 <= MOST_PRICE and fair_charge,
+        "the charge in 32 bits": fault == 15 and charge > MOST_CHARGE and fair_price,
+        "only the first length looked at": fault == 14 and lengths[0] <= MOST_ROLL,
+        "only the last length looked at": fault == 14 and lengths[-1] <= MOST_ROLL,
+        "only the first and the last length looked at": fault == 14 and max(lengths[0], lengths[-1]) <= MOST_ROLL,
+        "no section, and no price looked at": fault == 15 and not lengths,
+        "no section, and a charge": fault == 0 and not lengths and charge > 0,
+    })
+    if fault == 0:
+        kinds.update({name: wrong(lengths, price, charge) != cents for name, wrong in WRONG_BILLS.items()})
+    for entry, record in zip((model.OLD_ENTRY, model.NEW_ENTRY), RECORDS):
+        if len(plan) == 4 + entry * len(lengths):
+            tallied[record].update(kinds)
 
 
 # Cases named in the documents
@@ -377,6 +447,7 @@ def totals():
                 look(plan, strip_of(k, n).marks(max(0, at), n))
             smudged(plan, smudge(strip_of(k, n).marks(0, n), 1, random.Random(size)))
             misread(plan, strip_of(k, n).marks(0, n))
+            bill(plan, 1001, 1)
 
 
 # Plans with lookups
@@ -668,7 +739,7 @@ def few_sections(chance):
                     look(plan, strip.marks(at, n))
                 for j in range(m):
                     for crooked in one_broken(sections, j, n, places):
-                        look(either(k, n, crooked, chance), strip.marks(0, n))
+                        look_and_bill(either(k, n, crooked, chance), strip.marks(0, n))
 
 
 def broken_among_500(chance):
@@ -677,7 +748,119 @@ def broken_among_500(chance):
         sections = spread(strip.places, n, 500, chance)
         for j in (0, 1, 249, 250, 498, 499):
             for crooked in one_broken(sections, j, n, strip.places):
-                look(either(k, n, crooked, chance), strip.marks(0, n))
+                look_and_bill(either(k, n, crooked, chance), strip.marks(0, n))
+
+
+def look_and_bill(plan, window):
+    look(plan, window)
+    bill(plan, 1001, 1)
+
+
+# Bills
+
+ROLLS = (999, 1000, 1001, MOST_ROLL, MOST_ROLL + 1)
+PRICES = (0, 1, 999, 1000, 1001, MOST_PRICE, MOST_PRICE + 1, 2**32 - 1, 2**32, 2**32 + 1000, 2**64 - 1)
+CHARGES = (0, 1, MOST_PRICE + 1, MOST_CHARGE, MOST_CHARGE + 1, 2**64 - 1)
+FEW = ((1, 0), (MOST_PRICE, MOST_CHARGE), (MOST_PRICE + 1, 0), (0, MOST_CHARGE + 1), (2**64 - 1, 2**64 - 1))
+
+
+def bills(chance):
+    """Plans, prices and charges."""
+    yield from bills_of_the_rules()
+    yield from bills_at_the_borders(chance)
+    yield from bills_near_whole_cents(chance)
+    yield from bills_of_many_sections(chance)
+    yield from bills_of_long_rolls(chance)
+    yield from bills_of_any_plans(chance, 400)
+    yield from refused_bills()
+
+
+def bills_of_the_rules():
+    for rails in (None, (7, 8)):
+        for sections in ([(0, 1001)], [(0, 1001), (2000, 1001)]):
+            for price, charge in ((1, 0), (1, 5), (1000, 0), (0, 5), (MOST_PRICE + 1, 0)):
+                yield plan_bytes(2, 12, sections, rails and rails[:len(sections)]), price, charge
+        yield plan_bytes(2, 4, [(0, 6), (8, 8)], rails), 250, 100
+
+
+def rolled(lengths, chance):
+    """Sections of these lengths, some of which touch the one ahead."""
+    sections, end = [], 0
+    for length in lengths:
+        start = end + chance.choice((0, 1, chance.randrange(2**20)))
+        sections.append((start, length))
+        end = start + length
+    return sections
+
+
+def bills_at_the_borders(chance):
+    """No section, one, and two, of each length at a border, with each price and each charge there."""
+    for k, n in ((2, 60), (36, 11)):
+        for lengths in [()] + [pair[:m] for m in (1, 2) for pair in product((n,) + ROLLS, repeat=m)]:
+            for price, charge in product(PRICES, CHARGES):
+                for plan in both(k, n, rolled(lengths, chance), chance):
+                    yield plan, price, charge
+
+
+def bills_near_whole_cents(chance):
+    """A section whose marks cost whole cents, a thousandth or two more, or one less; some of its products have no double of their own."""
+    prices = [price for price in (1, 7, 999, 1001) + tuple(range(MOST_PRICE - 40, MOST_PRICE)) if price % 2 and price % 5]
+    for price, over, most in product(prices, (0, 1, 2, 999), (5000, MOST_ROLL)):
+        length = next(length for length in range(most, 0, -1) if length * price % 1000 == over)
+        for plan in both(2, 60, [(0, length)], chance):
+            yield plan, price, 1
+
+
+def some_price(chance):
+    """A good price and a good charge, small ones as often as large ones."""
+    return chance.randrange(chance.choice((3, 2000, MOST_PRICE + 1))), chance.randrange(chance.choice((3, 2000, MOST_CHARGE + 1)))
+
+
+def some_length(n, chance):
+    return n + chance.randrange(chance.choice((3, 2000, MOST_ROLL + 1 - n)))
+
+
+def bills_of_many_sections(chance):
+    """500 sections, of any lengths, and all as long as may be; the largest bill that there is."""
+    for k, n in LARGE:
+        for lengths in [[some_length(n, chance) for _ in range(500)] for _ in range(4)] + [[n] * 500, [MOST_ROLL] * 500]:
+            for plan in both(k, n, rolled(lengths, chance), chance):
+                yield (plan,) + some_price(chance)
+    largest = plan_bytes(2, 60, between([MOST_ROLL * i for i in range(501)]))
+    assert model.bill(largest, MOST_PRICE, MOST_CHARGE) == (0, 21476983958647500)
+    yield largest, MOST_PRICE, MOST_CHARGE
+
+
+def bills_of_long_rolls(chance):
+    """A section that is too long, by a mark or more: the first, the last, and one between them."""
+    for (k, n), m in product(((2, 60), (3, 37)), (1, 2, 3, 4, 500)):
+        for at, longer in product(sorted({0, m // 2, m - 1}), (1, 1 + chance.randrange(2**40))):
+            lengths = [some_length(n, chance) for _ in range(m)]
+            lengths[at] = MOST_ROLL + longer
+            for plan, (price, charge) in product(both(k, n, rolled(lengths, chance), chance), ((1, 0), (MOST_PRICE + 1, 0))):
+                yield plan, price, charge
+
+
+def bills_of_any_plans(chance, many):
+    """Plans of a few sections on small strips, some of them bent, and on large ones, at prices as they come."""
+    for _ in range(many):
+        k, n = chance.choice(small_strips(300))
+        sections = random_sections(k**n, n, chance.randint(1, 6), chance)
+        for plan in both(k, n, sections, chance) + [either(k, n, bent(sections, n, chance), chance)]:
+            yield (plan,) + some_price(chance)
+        k, n = chance.choice(LARGE)
+        sections = rolled([some_length(n, chance) for _ in range(chance.randint(1, 9))], chance)
+        for plan in both(k, n, sections, chance) + [either(k, n, random_sections(k**n, n, 4, chance), chance)]:
+            yield (plan,) + some_price(chance)
+
+
+def refused_bills():
+    """7, 1, 8, 14 and 15: alone and together."""
+    rolls = ([(0, 6), (8, 8)], [(0, 6), (5, 8)], [(0, 2**32)], [(0, 64), (64, 2**32)], [(0, 2**32), (64, 64)], [])
+    for (k, n), sections, rails in product(((2, 4), (2, 60), (1, 4), (2, 61), (0, 0)), rolls, (None, (7, 7))):
+        plan = plan_bytes(k, n, sections, rails and rails[:len(sections)])
+        for record, (price, charge) in product([plan] + list(torn(plan)), FEW):
+            yield record, price, charge
 
 
 def main():
@@ -712,6 +895,8 @@ def main():
     large_joints(chance)
     pictures(chance)
     picture_refusals()
+    for billed in bills(chance):
+        bill(*billed)
     check_tally()
 
 
