@@ -1,24 +1,27 @@
-/* Calls the library with junk: every set of refusals that can apply together, every section looked for and every pair of a plan broken, windows
-   alone in a plan, every joint on small strips, then inputs drawn with a fixed seed. An argument says how many of these, for a shorter run without
-   the small strips. Checked: the number given back, that a refusal leaves every byte as it was, that an answer leaves the bytes after it, and answers
-   by round trips, of smudged windows beside every filling. Exits 1 if anything is wrong, a number is never given, a call never answers, or smudged
-   windows hardly ever fit two laid ones. */
+/* Calls the library with junk: every set of refusals that can apply together, every section looked for and every pair of a plan broken, every section
+   of a bill too long, windows alone in a plan, every joint on small strips, then inputs drawn with a fixed seed. An argument says how many of these, for
+   a shorter run without the small strips. Checked: the number given back, that a refusal leaves every byte as it was, that an answer leaves the bytes
+   after it, and answers by round trips, of smudged windows beside every filling, of bills by thousands of marks. Exits 1 if anything is wrong, a number is
+   never given, a call never answers, or smudged windows hardly ever fit two laid ones. */
 #include "../include/strip.h"
 #include "lent.h"
 #include <limits.h>
 
-enum { TURN, RANK, WORD, MARK, PLACE, PRINT, PICTURE, LOOK, SMUDGED, MISREAD, CALLS };
+enum { TURN, RANK, WORD, MARK, PLACE, PRINT, PICTURE, LOOK, SMUDGED, MISREAD, BILL, CALLS };
 enum { SHADES = 36, LONGEST = 60, MOST_SECTIONS = 500, NUMBER = 8, LAYING = 12, UNREAD = 255, MOST_UNREAD = 2 };
 enum { WIDEST = 60000, HIGHEST = 64, LINE = 70, CHANGE = 10 }; /* CHANGE: bytes of an entry in a list of misreadings */
 enum { HEAD = 4, PAIR = 16, RAILED = 18 }; /* bytes of a plan before the entries, of an entry in an old record, and in a new one */
 enum { ENOUGH = 1000 }; /* choices, which are smudged windows that fit more than one laid window; more are not counted */
 enum { MOST_WORD = 96, MOST_TRAY = 1 << 18, MOST_PLAN = 9100, MOST_COUNT = 16 };
 #define MOST_PLACES ((uint64_t)1 << 60)
-static const char *const NAMES[CALLS] = {"turn_of",    "rank_of", "word_of",         "mark_at",       "place_of", "print_marks",
-                                         "picture_of", "look_up", "look_up_smudged", "misreadings_of"};
+#define MOST_ROLL ((uint64_t)4294967295) /* marks of a section that is billed */
+#define MOST_PRICE ((uint64_t)10000000)
+#define MOST_CHARGE ((uint64_t)4294967295)
+static const char *const NAMES[CALLS] = {"turn_of",    "rank_of", "word_of",         "mark_at",        "place_of", "print_marks",
+                                         "picture_of", "look_up", "look_up_smudged", "misreadings_of", "bill_of"};
 
 /* The order of the refusals. Those that apply are a mask with a bit for each number; what is counted by number has room for every bit. */
-#define IN_ORDER(X) X(7) X(1) X(12) X(8) X(10) X(2) X(11) X(3) X(4) X(13) X(5) X(9) X(6)
+#define IN_ORDER(X) X(7) X(1) X(12) X(8) X(14) X(15) X(10) X(2) X(11) X(3) X(4) X(13) X(5) X(9) X(6)
 #define LISTED(number) number,
 #define HAS_A_BIT(number) && (number) < BITS
 enum { BITS = sizeof(unsigned) * CHAR_BIT };
@@ -32,11 +35,14 @@ _Static_assert(STRIP_NUMBER == NUMBER && STRIP_LAYING == LAYING, "bytes of an an
 _Static_assert(STRIP_MOST_WIDTH == WIDEST && STRIP_MOST_HEIGHT == HIGHEST && STRIP_MOST_PICTURE == 3894924, "limits of a picture");
 _Static_assert(STRIP_ENTRY == CHANGE && STRIP_MOST_LIST == CHANGE * 11 * (SHADES - 1), "bytes of a list, and the longest, on (36, 11)");
 _Static_assert(STRIP_UNREAD == UNREAD && STRIP_MOST_UNREAD == MOST_UNREAD, "marks that were not read");
+_Static_assert(STRIP_MOST_ROLL == MOST_ROLL && STRIP_MOST_PRICE == MOST_PRICE && STRIP_MOST_CHARGE == MOST_CHARGE, "limits of a bill");
+_Static_assert(STRIP_MOST_BILL == 21476983958647500, "the largest bill");
 _Static_assert(MOST_PLAN >= HEAD + RAILED * (MOST_SECTIONS + 1) + RAILED, "a plan of one section too many, and a longer one, have room");
 
 struct ask {
     int call, kind;
     uint64_t k, n, number, marks, height; /* the marks of a picture are its width */
+    uint64_t price, charge;
     const uint8_t *input, *plan;
     size_t input_length, plan_length, tray_length;
     size_t count_length; /* of the tray for a picture's size or a list's number of entries */
@@ -47,9 +53,11 @@ static unsigned long refused[BITS], failures, round_trips[CALLS], choices;
 
 static void fail(const struct ask *a, const char *what, unsigned given, unsigned wanted) {
     if (failures++ >= 20) return;
-    printf("%s: %s; k %llu, n %llu, number %llu, marks %llu, height %llu, input of %zu, plan of %zu, tray of %zu, for a count %zu; given %u, expected %u; input",
+    printf("%s: %s; k %llu, n %llu, number %llu, marks %llu, height %llu, price %llu, charge %llu, input of %zu, plan of %zu, tray of %zu, for a count %zu; "
+           "given %u, expected %u; input",
            NAMES[a->call], what, (unsigned long long)a->k, (unsigned long long)a->n, (unsigned long long)a->number, (unsigned long long)a->marks,
-           (unsigned long long)a->height, a->input_length, a->plan_length, a->tray_length, a->count_length, given, wanted);
+           (unsigned long long)a->height, (unsigned long long)a->price, (unsigned long long)a->charge, a->input_length, a->plan_length, a->tray_length,
+           a->count_length, given, wanted);
     for (size_t i = 0; i < a->input_length; i++) printf(" %u", a->input[i]);
     printf("; plan");
     for (size_t i = 0; i < a->plan_length && i < 100; i++) printf(" %02x", a->plan[i]);
@@ -256,11 +264,22 @@ static size_t list_length(const struct ask *a) {
     return CHANGE * entries;
 }
 
+/* of a roll that is too long only in a record that is not torn */
+static unsigned bill_faults(const struct ask *a) {
+    unsigned faults = plan_faults(a->plan, a->plan_length);
+    if (a->price > MOST_PRICE || a->charge > MOST_CHARGE) faults |= 1u << 15;
+    if (faults & 1u << 7) return faults;
+    for (size_t at = HEAD; at < a->plan_length; at += entry_of(a->plan, a->plan_length))
+        if (number_in(a->plan + at + 8, 8) > MOST_ROLL) faults |= 1u << 14;
+    return faults;
+}
+
 static int takes_a_word(int call) {
     return call == TURN || call == RANK || call == PLACE;
 }
 
-static int takes_a_plan(int call) {
+/* a plan and a window of it */
+static int looks_in_a_plan(int call) {
     return call == LOOK || call == SMUDGED || call == MISREAD;
 }
 
@@ -300,6 +319,8 @@ static unsigned faults_of(const struct ask *a, size_t length) {
         faults = look_faults(a);
     } else if (a->call == SMUDGED) {
         faults = smudged_faults(a);
+    } else if (a->call == BILL) {
+        faults = bill_faults(a);
     } else {
         int good = admitted(a->k, a->n, &places);
         if (!good) faults |= 1u << 1;
@@ -417,6 +438,16 @@ static int sound_list(const struct ask *a, const uint8_t *list, size_t length) {
     return 1;
 }
 
+/* a thousand marks cost as many cents as one costs thousandths; what the marks left over cost is raised to whole cents */
+static int sound_bill(const struct ask *a, uint64_t bill) {
+    uint64_t cents = 0;
+    for (size_t at = HEAD; at < a->plan_length; at += entry_of(a->plan, a->plan_length)) {
+        uint64_t size = number_in(a->plan + at + 8, 8), left = size % 1000 * a->price;
+        cents += size / 1000 * a->price + left / 1000 + (left % 1000 != 0) + a->charge;
+    }
+    return bill == cents && bill <= STRIP_MOST_BILL;
+}
+
 static int sound(const struct ask *a, const uint8_t *answer, size_t length) {
     round_trips[a->call]++;
     switch (a->call) {
@@ -429,6 +460,7 @@ static int sound(const struct ask *a, const uint8_t *answer, size_t length) {
     case PICTURE: return sound_picture(a, answer);
     case SMUDGED: return sound_smudged(a, answer);
     case MISREAD: return sound_list(a, answer, length);
+    case BILL: return sound_bill(a, number_in(answer, 8));
     }
     uint8_t right[LAYING];
     return laid(a, place_by_library(a->plan[0], a->plan[1], a->input), right) && memcmp(answer, right, LAYING) == 0;
@@ -447,6 +479,7 @@ static unsigned call(const struct ask *a, const uint8_t *input, const uint8_t *p
     case PICTURE: return picture_of(a->k, a->n, a->number, a->marks, a->height, count->bytes, count->length, tray->bytes, tray->length);
     case SMUDGED: return look_up_smudged(plan, a->plan_length, input, a->input_length, tray->bytes, tray->length);
     case MISREAD: return misreadings_of(plan, a->plan_length, input, a->input_length, count->bytes, count->length, tray->bytes, tray->length);
+    case BILL: return bill_of(plan, a->plan_length, a->price, a->charge, tray->bytes, tray->length);
     }
     return look_up(plan, a->plan_length, input, a->input_length, tray->bytes, tray->length);
 }
@@ -589,16 +622,23 @@ static const uint8_t WINDOWS[][6] = {{4, 0, 0, 0, 0}, {4, 1, 1, 0, 0}, {4, 1, 1,
                                      {4, 255, 0, 0, 255}, {4, 1, 255, 1, 255}, {4, 1, 0, 0, 255}, {4, 255, 2, 0, 0}, {4, 254, 255, 0, 0},
                                      {4, 255, 255, 255, 0}, {4, 255, 2, 255, 255}, {3, 255, 255, 255}, {5, 255, 255, 255, 255, 2}};
 
+enum { TEARS = 10 };
+
+/* a plan of these sections, torn in one of the ways, or whole; its length */
+static size_t torn_plan(const uint8_t *strip, const uint64_t *sections, size_t entry, int how, uint8_t *plan) {
+    memset(plan, 0, MOST_PLAN);
+    memcpy(plan, strip, 2);
+    put_number(plan + 2, sections[0], 2);
+    for (uint64_t i = 0; i < sections[0]; i++) put_entry(plan, entry, i, sections[1 + 2 * i], sections[2 + 2 * i], 65535 - i);
+    return tear(plan, HEAD + entry * (size_t)sections[0], entry, how);
+}
+
 static void plan_sets(const uint8_t *strip, const uint64_t *sections, size_t entry) {
     static uint8_t plan[MOST_PLAN];
-    for (int how = 0; how < 10; how++)
+    for (int how = 0; how < TEARS; how++)
         for (size_t w = 0; w < sizeof WINDOWS / sizeof *WINDOWS; w++) {
-            memset(plan, 0, sizeof plan);
-            memcpy(plan, strip, 2);
-            put_number(plan + 2, sections[0], 2);
-            for (uint64_t i = 0; i < sections[0]; i++) put_entry(plan, entry, i, sections[1 + 2 * i], sections[2 + 2 * i], 65535 - i);
             struct ask a = {.call = LOOK, .plan = plan, .input = WINDOWS[w] + 1, .input_length = WINDOWS[w][0]};
-            a.plan_length = tear(plan, HEAD + entry * (size_t)sections[0], entry, how);
+            a.plan_length = torn_plan(strip, sections, entry, how, plan);
             if (how == 0 || w < PLAIN) try_trays(a);
             a.call = SMUDGED;
             if (how == 0 || w >= PLAIN) try_trays(a);
@@ -611,6 +651,37 @@ static void all_plan_sets(void) {
     for (size_t p = 0; p < sizeof PLAN_STRIPS / 2; p++)
         for (size_t s = 0; s < sizeof SECTIONS / sizeof *SECTIONS; s++)
             for (size_t entry = PAIR; entry <= RAILED; entry += RAILED - PAIR) plan_sets(PLAN_STRIPS[p], SECTIONS[s], entry);
+}
+
+/* for bills also sections of which some are too long, on a strip that has room for them, and on one that has not; and prices with charges, the first few
+   tried with torn records too */
+static const uint64_t ROLLS[][5] = {{1, 0, 1001},
+                                    {2, 0, MOST_ROLL, MOST_ROLL, MOST_ROLL},
+                                    {1, 0, MOST_ROLL + 1},
+                                    {2, 0, 64, 64, MOST_ROLL + 1},
+                                    {2, 0, MOST_ROLL + 1, 1ull << 33, 64},
+                                    {2, 0, MOST_ROLL + 1, 64, 64}};
+static const uint8_t ROLL_STRIPS[][2] = {{2, 60}, {36, 11}};
+enum { ON_TORN = 4 };
+static const uint64_t PRICES[][2] = {{1, 5}, {MOST_PRICE + 1, 0},      {0, MOST_CHARGE + 1},      {UINT64_MAX, UINT64_MAX}, {0, 0}, {MOST_PRICE, MOST_CHARGE},
+                                     {999, 1}, {(1ull << 32) + 1, 0}, {MOST_CHARGE, MOST_PRICE}, {1, UINT64_MAX}};
+
+static void bill_sets(const uint8_t *strip, const uint64_t *sections, size_t entry) {
+    static uint8_t plan[MOST_PLAN];
+    for (int how = 0; how < TEARS; how++)
+        for (size_t p = 0; p < (how == 0 ? sizeof PRICES / sizeof *PRICES : ON_TORN); p++) {
+            struct ask a = {.call = BILL, .plan = plan, .price = PRICES[p][0], .charge = PRICES[p][1]};
+            a.plan_length = torn_plan(strip, sections, entry, how, plan);
+            try_trays(a);
+        }
+}
+
+static void all_bill_sets(void) {
+    size_t strips = sizeof PLAN_STRIPS / 2, sections = sizeof SECTIONS / sizeof *SECTIONS;
+    for (size_t p = 0; p < strips + sizeof ROLL_STRIPS / 2; p++)
+        for (size_t s = 0; s < sections + sizeof ROLLS / sizeof *ROLLS; s++)
+            for (size_t entry = PAIR; entry <= RAILED; entry += RAILED - PAIR)
+                bill_sets(p < strips ? PLAN_STRIPS[p] : ROLL_STRIPS[p - strips], s < sections ? SECTIONS[s] : ROLLS[s - sections], entry);
 }
 
 /* Every section of a plan looked for, and every pair of numbers broken alone */
@@ -656,6 +727,17 @@ static void look_at(struct ask *a, uint64_t place) {
     look_for(a, window);
 }
 
+/* the plan's bill, whatever is asked of it else; the tray is just as long as the answer */
+static void bill_for(struct ask a, const uint64_t *price) {
+    static unsigned bills;
+    a.call = BILL;
+    a.price = price[0];
+    a.charge = price[1];
+    a.kind = (int)(bills++ % KINDS);
+    a.tray_length = NUMBER;
+    try_call(&a);
+}
+
 /* at a section's first and last mark, at its last window, at one that ends behind it by a mark or by half of them, and behind it */
 static void each_section(struct ask *a, size_t stride) {
     look_at(a, 0);
@@ -690,6 +772,7 @@ static void each_pair(struct ask *a, uint8_t *plan) {
             break_pair(plan + at, entry, way, plan[1], places);
             if (plan_faults(plan, a->plan_length) != 1u << 8) fail(a, "a pair that is not broken", 0, 8);
             look_at(a, 0);
+            bill_for(*a, PRICES[0]);
             memcpy(plan + at, pair, PAIR);
         }
 }
@@ -707,6 +790,34 @@ static void all_sections(void) {
                 each_section(&a, 7); /* slow, so only some, with gaps of every kind */
                 a.call = MISREAD;
                 each_section(&a, 125); /* slower still: one for each kind of gap */
+            }
+}
+
+/* Every section of a plan that is billed as long as may be, and longer by a mark, among others that are short or as long as may be */
+
+static const uint64_t ROLL_COUNTS[] = {1, 2, 3, MOST_SECTIONS};
+
+static void each_roll(const uint8_t *strip, uint64_t m, size_t entry, uint64_t others) {
+    static uint8_t plan[MOST_PLAN];
+    struct ask a = {.plan = plan};
+    a.plan_length = spread(strip[0], strip[1], m, plan, entry);
+    for (uint8_t *size = plan + HEAD + 8; size < plan + a.plan_length; size += entry) put_number(size, others, 8);
+    for (size_t p = 0; p < sizeof PRICES / sizeof *PRICES; p++) bill_for(a, PRICES[p]);
+    for (uint8_t *size = plan + HEAD + 8; size < plan + a.plan_length; size += entry) {
+        for (uint64_t longer = 0; longer < 2; longer++) {
+            put_number(size, MOST_ROLL + longer, 8);
+            for (size_t p = 0; p < ON_TORN; p++) bill_for(a, PRICES[p]);
+        }
+        put_number(size, others, 8);
+    }
+}
+
+static void all_rolls(void) {
+    for (size_t s = 0; s < sizeof ROLL_STRIPS / 2; s++)
+        for (size_t m = 0; m < sizeof ROLL_COUNTS / sizeof *ROLL_COUNTS; m++)
+            for (size_t entry = PAIR; entry <= RAILED; entry += RAILED - PAIR) {
+                each_roll(ROLL_STRIPS[s], ROLL_COUNTS[m], entry, 1001);
+                each_roll(ROLL_STRIPS[s], ROLL_COUNTS[m], entry, MOST_ROLL);
             }
 }
 
@@ -890,6 +1001,23 @@ static size_t draw_wide_plan(uint64_t k, uint64_t n, uint8_t *plan) {
     return spread(k, n, m, plan, below(2) ? PAIR : RAILED);
 }
 
+/* a wide plan with its sections cut, so that most can be billed; some are as long as may be, or longer by a mark */
+static size_t draw_rolls(uint64_t k, uint64_t n, uint8_t *plan) {
+    size_t length = draw_wide_plan(k, n, plan);
+    if (plan_faults(plan, length) != 0) return length;
+    for (size_t at = HEAD + 8; at < length; at += entry_of(plan, length)) {
+        uint64_t most = below(8) == 0 ? MOST_ROLL + below(2) : plan[1] + draw_any() % MOST_ROLL;
+        if (number_in(plan + at, 8) > most) put_number(plan + at, most, 8);
+    }
+    return length;
+}
+
+static void draw_bill(struct ask *a, uint8_t *plan) {
+    a->plan_length = below(2) ? draw_rolls(a->k, a->n, plan) : draw_plan(a->k % 256, a->n % 256, plan);
+    a->price = draw_number(MOST_PRICE + 1);
+    a->charge = draw_number(MOST_CHARGE + 1);
+}
+
 /* a window that is often one of the plan: at a section's start, its end or across it */
 static size_t draw_window(const uint8_t *plan, size_t length, uint8_t *window) {
     uint64_t places, n = length >= HEAD ? plan[1] : 3, k = length >= HEAD ? plan[0] : 3;
@@ -932,7 +1060,8 @@ static void draw_call(void) {
     if (a.call == WORD) a.number = draw_number(admitted(a.k, a.n, &places) ? lyndon_count(a.k, a.n) : 100);
     if (a.call == MARK || a.call == PRINT) a.number = draw_number(places);
     if (a.call == PRINT) a.marks = below(8) == 0 ? draw_any() : below(below(8) == 0 ? 2000 : 100);
-    if (takes_a_plan(a.call)) {
+    if (a.call == BILL) draw_bill(&a, plan);
+    if (looks_in_a_plan(a.call)) {
         a.plan_length = a.call != LOOK && below(2) ? draw_wide_plan(a.k, a.n, plan) : draw_plan(a.k % 256, a.n % 256, plan);
         a.input_length = draw_window(plan, a.plan_length, word);
     }
@@ -961,7 +1090,9 @@ int main(int count, char **arguments) {
     count_room = make_room(MOST_COUNT);
     all_sets();
     all_plan_sets();
+    all_bill_sets();
     all_sections();
+    all_rolls();
     lone_windows();
     if (count == 1) all_joints();
     for (unsigned long i = 0; i < inputs; i++) draw_call();
