@@ -1,7 +1,7 @@
 #!/usr/bin/env python3
 """What the program `cases` must print, by the model of the rules."""
 import model
-from model import lyndon_count, lyndon_test, rank_of, rotation_of, shortest_root
+from model import lyndon_count, lyndon_test, plan_bytes, rank_of, rotation_of, shortest_root
 
 
 def digits(word):
@@ -38,6 +38,10 @@ def tests(k, n, word):
     print("rotation", k, n, digits(word), fault, digits(into([7] * 8, list(answer))), turn)
 
 
+def bill(plan, price, charge):
+    print("bill", plan.hex(), price, charge, *model.bill(plan, price, charge))
+
+
 def main():
     for k, n, word in ((3, 2, (0, 0)), (3, 2, (2, 2)), (3, 2, (3, 0)), (3, 2, (0,)), (4, 1, (2,)), (1, 6, (0,))):
         rank(k, n, word)
@@ -64,6 +68,9 @@ def main():
         (2, 9, (0, 0, 0, 0, 0, 0, 0, 0, 1)),
     ):
         tests(k, n, word)
+    one, two = plan_bytes(2, 12, [(0, 1001)]), plan_bytes(2, 12, [(0, 1001), (2000, 1001)])
+    for plan, price, charge in ((one, 1, 0), (two, 1, 0), (two, 1, 5), (one, 1000, 0), (one, 10000001, 0), (one[:3], 1, 0)):
+        bill(plan, price, charge)
 
 
 if __name__ == "__main__":

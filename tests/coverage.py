@@ -21,7 +21,7 @@ HEAD = re.compile(r"^( *)(pub )?(?:extern +)?fn (\w+)", re.M)
 ANY_HEAD = re.compile(r"\bfn\s+\w+")
 LEAST_EDITS = 2
 BOUNDARY = "strip"
-CALLS = {"words", "ranking", "marks", "pictures", "lookups", "misreadings", "cursors", BOUNDARY}  # what a reader may call, used by another crate or not
+CALLS = {"words", "ranking", "marks", "pictures", "lookups", "misreadings", "bills", "cursors", BOUNDARY}  # what a reader may call, used by another crate or not
 WHOLE = {"theory::proved": "Theorems", "demands::promised": "Demands"}  # their contracts are the theorems
 
 

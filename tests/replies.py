@@ -13,8 +13,8 @@ from itertools import product
 
 import model
 import stripwalk
-from model import LARGE, MOST_MARKS, MOST_PLACES, MOST_SHADES, cursor_start, cursor_with, number, plan_bytes, small_strips, strip_of
-from vectors import HUGE, both, either, plain, random_sections, repeated, runs, spread, topped, torn
+from model import LARGE, MOST_MARKS, MOST_PLACES, MOST_PRICE, MOST_SHADES, cursor_start, cursor_with, number, plan_bytes, small_strips, strip_of
+from vectors import HUGE, bills, both, either, plain, random_sections, repeated, runs, some_price, spread, topped, torn
 
 MOST_BYTES = 65536  # of a request
 TRAY, PAPER, BEFORE = 64, 512, 170  # bytes of the tray, of that for a picture or a list, and what each holds before the call
@@ -29,6 +29,7 @@ GIVES = {
     "print_picture": (0, 1, 4, 6, 12, 13),
     "check_plan": (0, 1, 7, 8),
     "misreadings": (0, 1, 2, 3, 6, 7, 8, 9),
+    "bill": (0, 1, 7, 8, 14, 15),
     "start_cursor": (0, 1, 4),
     "cursor_place": (0, 1, 10),
     "step": (0, 1, 10),
@@ -81,6 +82,10 @@ def misread_lines(body):
     yield line("misreadings", fault, len(entries) // CHANGE, *entries.ljust(PAPER, bytes([BEFORE])))
 
 
+def bill_lines(body):
+    yield line("bill", *model.bill(body[16:], *numbers_in(body[:16])))
+
+
 def start_lines(body):
     fault, cursor = cursor_start(*numbers_in(body))
     yield line("start_cursor", fault, *fields_of(cursor))
@@ -94,7 +99,7 @@ def cursor_lines(body):
         yield line(call, fault, mark, passed, *fields_of(moved))
 
 
-LINES = {b"w": word_lines, b"i": picture_lines, b"p": plan_lines, b"m": misread_lines, b"s": start_lines, b"c": cursor_lines}
+LINES = {b"w": word_lines, b"i": picture_lines, b"p": plan_lines, b"m": misread_lines, b"b": bill_lines, b"s": start_lines, b"c": cursor_lines}
 
 
 def answer(request):
@@ -125,6 +130,10 @@ def ask_misread(plan, window, lent):
     return ask(b"m", lent.to_bytes(2, "big") + bytes([len(window)]) + bytes(window) + plan)
 
 
+def ask_bill(plan, price, charge):
+    return ask(b"b", number(price) + number(charge) + plan)
+
+
 def ask_start(k, n, place):
     return ask(b"s", number(k) + number(n) + number(place))
 
@@ -140,6 +149,7 @@ def sample():
         ask_picture(2, 4, 4, 5, 2, 21), ask_picture(3, 4, 4, 5, 2, 21), ask_picture(2, 4, 4, 5, 2, 18),
         ask(b"p", stripwalk.SAMPLE), ask(b"p", plan_bytes(2, 4, [(0, 8), (7, 5)])),
         ask_misread(stripwalk.SAMPLE, (1, 0, 1, 1), 23), ask_misread(stripwalk.SAMPLE, (1, 0, 0, 1), 23),
+        ask_bill(stripwalk.SAMPLE, 250, 100), ask_bill(stripwalk.SAMPLE, MOST_PRICE + 1, 100), ask_bill(stripwalk.SAMPLE[:-1], 250, 100),
         ask_start(2, 6, 28), ask_start(2, 6, 64), ask_cursor(good), ask_cursor(good[:4] + (6,)),
     ))
 
@@ -250,16 +260,37 @@ def refused_lists():
                 yield ask_misread(broken, window, PAPER)
 
 
+def changed_plan(k, n, chance):
+    """A good plan with up to two of its bytes changed."""
+    plan = bytearray(either(k, n, random_sections(k**n, n, 3, chance), chance))
+    for _ in range(chance.randrange(3)):
+        plan[chance.randrange(len(plan))] = chance.choice((0, 1, 7, chance.randrange(256)))
+    return bytes(plan)
+
+
 def junk_lists(chance):
     """Good plans with a few bytes changed, and bytes of any kind; windows of any kind."""
     for _ in range(600):
         k, n = chance.choice(small_strips(64))
-        plan = bytearray(either(k, n, random_sections(k**n, n, 3, chance), chance))
-        for _ in range(chance.randrange(3)):
-            plan[chance.randrange(len(plan))] = chance.choice((0, 1, 7, chance.randrange(256)))
+        plan = changed_plan(k, n, chance)
         window = [chance.randrange(k) if chance.random() < 0.98 else chance.randrange(256) for _ in range(n + chance.choice((0, 0, 0, 0, 1)))]
-        yield ask_misread(bytes(plan), window, chance.randrange(PAPER + 1))
+        yield ask_misread(plan, window, chance.randrange(PAPER + 1))
         yield ask_misread(chance.randbytes(chance.randrange(60)), chance.randbytes(chance.randrange(9)), chance.randrange(PAPER + 1))
+
+
+# Bills
+
+def every_bill(chance):
+    """Those of the vectors: at each border, of many sections, of long rolls, of torn and crooked plans."""
+    for plan, price, charge in bills(chance):
+        yield ask_bill(plan, price, charge)
+
+
+def junk_bills(chance):
+    """Good plans with a few bytes changed, and bytes of any kind."""
+    for _ in range(300):
+        yield ask_bill(changed_plan(*chance.choice(small_strips(64)), chance), *some_price(chance))
+        yield ask_bill(chance.randbytes(chance.randrange(60)), *some_price(chance))
 
 
 # Starts
@@ -425,6 +456,8 @@ def requests():
         "large lists": large_lists(chance),
         "refused lists": refused_lists(),
         "junk lists": junk_lists(chance),
+        "every bill": every_bill(chance),
+        "junk bills": junk_bills(chance),
         "every start": every_start(),
         "large starts": large_starts(chance),
         "refused starts": refused_starts(),

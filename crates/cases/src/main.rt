@@ -1,4 +1,4 @@
-// Runs the cases of the documents that the calls on words answer: a line for each call, with what it was asked, its number, its answer.
+// Runs the cases of the documents that the calls on words and on bills answer: a line for each call, with what it was asked, its number, its answer.
 
 // Between two fields.
 fn space() {
@@ -154,6 +154,31 @@ fn turns() {
     tests(2, 9, &[0, 0, 0, 0, 0, 0, 0, 0, 1]);
 }
 
+// bill.
+fn bill(plan: &[u8], price: u64, charge: u64) {
+    io::write_all(1, b"bill ");
+    bytes(plan);
+    space();
+    io::print_decimal(1, price);
+    space();
+    io::print_decimal(1, charge);
+    space();
+    answered(bills::bill(plan, price, charge));
+}
+
+// On (2, 12): one section of 1,001 marks, and two of them, at price 1; with charges; at a cent a mark; a price too high; a torn plan.
+fn plan_bills() {
+    let one = b"\x02\x0c\x00\x01\0\0\0\0\0\0\0\0\0\0\0\0\0\0\x03\xe9";
+    let two =
+        b"\x02\x0c\x00\x02\0\0\0\0\0\0\0\0\0\0\0\0\0\0\x03\xe9\0\0\0\0\0\0\x07\xd0\0\0\0\0\0\0\x03\xe9";
+    bill(one, 1, 0);
+    bill(two, 1, 0);
+    bill(two, 1, 5);
+    bill(one, 1000, 0);
+    bill(one, 10000001, 0);
+    bill(b"\x02\x0c\x00", 1, 0);
+}
+
 // The cases, in the order of tests/cases.py.
 fn main() {
     small_strips();
@@ -165,4 +190,5 @@ fn main() {
     tests(3, 2, &[2, 3]);
     tests(3, 2, &[2, 1, 0]);
     turns();
+    plan_bills();
 }

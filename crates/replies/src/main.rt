@@ -7,6 +7,7 @@
 //        the lent tray in 2
 //     m  the length of the lent tray in 2 bytes, the window's in one, a window,  misreadings
 //        a plan
+//     b  a price and a charge in 8 bytes each, a plan                            bill
 //     c  a cursor: k, n, the 60 bytes of its word, long, place                   cursor_place, step, step_cursor, step_back
 // tests/replies.py makes asks, and the lines that must come.
 ghost use Prim.Native.Nat.{_+_, _≤_, _<_};
@@ -15,12 +16,14 @@ use calls::Value;
 use cursors::Cursor;
 use cursors::Stepped;
 
-// Bytes of an ask before what is asked, before its word and before its window; of a start, of a picture, of a cursor, and of a cursor's word.
+// Bytes of an ask before what is asked, before its word, before its window and before its plan that is billed; of a start, of a picture, of a cursor, and of a cursor's word.
 const HEAD: usize = 3;
 
 const BEFORE_WORD: usize = 17;
 
 const BEFORE_WINDOW: usize = 3;
+
+const BEFORE_BILLED: usize = 16;
 
 const START_BYTES: usize = 24;
 
@@ -218,6 +221,17 @@ fn misread_asked(ask: &[u8]) {
     }
 }
 
+// An ask for a bill.
+fn bill_asked(ask: &[u8]) {
+    if ask.len() < BEFORE_BILLED {
+        return;
+    }
+    valued(
+        b"bill",
+        bills::bill(&ask[BEFORE_BILLED..], number(ask, 0), number(ask, 8)),
+    );
+}
+
 // An ask for a start.
 fn start_asked(ask: &[u8]) {
     if ask.len() < START_BYTES {
@@ -268,6 +282,7 @@ fn answer(letter: u8, ask: &[u8]) {
         b'w' => word_asked(ask),
         b'p' => plan_asked(ask),
         b'm' => misread_asked(ask),
+        b'b' => bill_asked(ask),
         b's' => start_asked(ask),
         b'i' => picture_asked(ask),
         b'c' => cursor_asked(ask),
