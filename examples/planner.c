@@ -4,7 +4,6 @@
    library refuses is not written. Build and run it with examples/run. */
 #include "marks.h"
 #include <stdlib.h>
-#include <string.h>
 
 /* Room for a line: a longer one is cut, and what is left is still too long for a number or a window. */
 enum { LINE = 80 };
@@ -20,20 +19,6 @@ static int read_line(char *line)
     return c != EOF || length > 0;
 }
 
-/* Whether a line is a number from least to most, in digits alone. */
-static int is_number(const char *line, uint64_t least, uint64_t most, uint64_t *value)
-{
-    size_t length = strlen(line);
-    *value = 0;
-    for (size_t i = 0; i < length; i++) {
-        uint64_t digit = (uint64_t)(line[i] - '0');
-        if (digit > 9 || digit > most || *value > (most - digit) / 10)
-            return 0;
-        *value = *value * 10 + digit;
-    }
-    return length > 0 && length < LINE - 1 && *value >= least;
-}
-
 /* Asks until a number is typed. */
 static uint64_t ask(const char *what, uint64_t least, uint64_t most)
 {
@@ -45,7 +30,7 @@ static uint64_t ask(const char *what, uint64_t least, uint64_t most)
             fprintf(stderr, "planner: the answers end too early\n");
             exit(1);
         }
-        if (is_number(line, least, most, &value))
+        if (strlen(line) < LINE - 1 && is_number(line, least, most, &value))
             return value;
         printf("not a number from %llu to %llu\n", (unsigned long long)least, (unsigned long long)most);
     }

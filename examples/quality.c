@@ -2,7 +2,6 @@
 
    Usage: quality PLAN MARKS..., e.g. quality sample.plan 1011. Build and run it on the sample plan with examples/run. */
 #include "marks.h"
-#include <string.h>
 
 /* Prints a mark, the shade that it may be read as, and where the window stands then. */
 static void tell_entry(const uint8_t *plan, size_t plan_len, const uint8_t *window, size_t count, const uint8_t *entry)
