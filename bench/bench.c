@@ -6,14 +6,14 @@
 #include <stdlib.h>
 #include <time.h>
 
-enum { TURN, RANK, PLACE, WORD, MARK, LOOK, SMUDGED, MISREAD, PRINT, PICTURE, CALLS };
+enum { TURN, RANK, PLACE, WORD, MARK, LOOK, SMUDGED, MISREAD, BILL, PRINT, PICTURE, CALLS };
 enum { LIBRARY, PLAIN, BEST, COPY, MAKERS };
 enum { INPUTS = 64, ROUNDS = 15, PRINTED = 1 << 20, WIDTH = STRIP_MOST_WIDTH, HEIGHT = STRIP_MOST_HEIGHT, FILE_BYTES = STRIP_MOST_PICTURE };
-static const char *const NAMES[CALLS] = {"turn_of", "rank_of",         "place_of",       "word_of",     "mark_at",
-                                         "look_up", "look_up_smudged", "misreadings_of", "print_marks", "picture_of"};
+static const char *const NAMES[CALLS] = {"turn_of", "rank_of",         "place_of",       "word_of", "mark_at",
+                                         "look_up", "look_up_smudged", "misreadings_of", "bill_of", "print_marks", "picture_of"};
 static const uint64_t STRIPS[][2] = {{2, 60}, {4, 30}, {36, 11}};
 
-static uint64_t k, n, numbers[INPUTS];
+static uint64_t k, n, numbers[INPUTS], charges[INPUTS]; /* the numbers of bills are prices */
 static uint8_t words[INPUTS][MOST], plan[4 + 18 * SECTIONS], printed[MAKERS][FILE_BYTES];
 
 static uint64_t draw(void) {
@@ -24,7 +24,8 @@ static uint64_t draw(void) {
     return x ^ x >> 31;
 }
 
-static void lay_sections(void) {
+/* in a plan that is billed they are shorter, as no roll may be too long */
+static void lay_sections(int call) {
     uint64_t room = places_of(k, n) / SECTIONS;
     plan[0] = (uint8_t)k;
     plan[1] = (uint8_t)n;
@@ -32,7 +33,7 @@ static void lay_sections(void) {
     for (uint64_t i = 0; i < SECTIONS; i++) {
         uint8_t *at = plan + 4 + 18 * i;
         put_number(at, i * room, 8);
-        put_number(at + 8, room - i % 2 * (room / 8), 8);
+        put_number(at + 8, call == BILL ? n + draw() % (STRIP_MOST_ROLL - n) : room - i % 2 * (room / 8), 8);
         put_number(at + 16, i / 2, 2); /* the sections that meet have one rail */
     }
 }
@@ -42,10 +43,11 @@ static void draw_word(uint8_t *word) {
 }
 
 static void draw_inputs(int call) {
-    uint64_t limit = call == WORD ? lyndon_count(k, n) : places_of(k, n), room = places_of(k, n) / SECTIONS;
+    uint64_t limit = call == WORD ? lyndon_count(k, n) : call == BILL ? STRIP_MOST_PRICE + 1 : places_of(k, n), room = places_of(k, n) / SECTIONS;
     for (int i = 0; i < INPUTS; i++) {
         uint8_t tray[MOST];
         numbers[i] = draw() % limit + (call == WORD);
+        charges[i] = draw() % (STRIP_MOST_CHARGE + 1);
         draw_word(words[i]);
         /* half of the windows looked up cross the welded joint of a section and the next */
         if (call == LOOK && i % 2 != 0) print_marks(k, n, (draw() % SECTIONS | 1) * room - 1 - draw() % (n - 1), n, words[i], n);
@@ -66,6 +68,7 @@ static void draw_inputs(int call) {
         case LOOK: return name##look_up(plan, sizeof plan, words[i], n, tray, MOST);                                                    \
         case SMUDGED: return name##look_up_smudged(plan, sizeof plan, words[i], n, tray, MOST);                                         \
         case MISREAD: return name##misreadings_of(plan, sizeof plan, words[i], n, tray, MOST, printed[maker], STRIP_MOST_LIST);         \
+        case BILL: return name##bill_of(plan, sizeof plan, numbers[i], charges[i], tray, MOST);                                         \
         case PRINT: return name##print_marks(k, n, numbers[i], PRINTED, printed[maker], PRINTED);                                       \
         default: return name##picture_of(k, n, numbers[i], WIDTH, HEIGHT, tray, MOST, printed[maker], FILE_BYTES);                      \
         }
@@ -120,7 +123,7 @@ static double pass(int maker, int call, int inputs) {
 static void measure(int call) {
     double least[MAKERS];
     int inputs = prints(call) ? 4 : INPUTS, makers = prints(call) ? MAKERS : COPY;
-    lay_sections();
+    lay_sections(call);
     draw_inputs(call);
     check(call, inputs);
     for (int round = 0; round < ROUNDS; round++)

@@ -19,7 +19,8 @@ enum { MOST = 60, SECTIONS = 500 };
     uint8_t name##_look_up(const uint8_t *plan, size_t plan_len, const uint8_t *window, size_t window_len, uint8_t *tray, size_t tray_len); \
     uint8_t name##_look_up_smudged(const uint8_t *plan, size_t plan_len, const uint8_t *window, size_t window_len, uint8_t *tray, size_t tray_len); \
     uint8_t name##_misreadings_of(const uint8_t *plan, size_t plan_len, const uint8_t *window, size_t window_len, uint8_t *count, size_t count_len, \
-                                  uint8_t *tray, size_t tray_len)
+                                  uint8_t *tray, size_t tray_len);                                                                      \
+    uint8_t name##_bill_of(const uint8_t *plan, size_t plan_len, uint64_t price, uint64_t charge, uint8_t *tray, size_t tray_len)
 CALLS_OF(plain);
 CALLS_OF(best);
 
@@ -90,17 +91,31 @@ static inline size_t entry_of(const uint8_t *plan, size_t length) {
     return length == 4 + 16 * get_number(plan + 2, 2) ? 16 : 18;
 }
 
+/* of a plan's total, count and strip; the strip's places */
+static inline uint8_t head_fault(const uint8_t *plan, size_t length, uint64_t *places) {
+    if (length < 4 || get_number(plan + 2, 2) > SECTIONS || length != 4 + entry_of(plan, length) * get_number(plan + 2, 2)) return 7;
+    *places = places_of(plan[0], plan[1]);
+    return *places == 0;
+}
+
+/* whether a section keeps the rules, behind one with this end; its own end then */
+static inline int is_straight(uint64_t offset, uint64_t size, uint64_t n, uint64_t places, uint64_t *end) {
+    if (offset < *end || offset > places || size < n || size > places - offset) return 0;
+    *end = offset + size;
+    return 1;
+}
+
 static inline uint8_t plan_fault(const uint8_t *plan, size_t length) {
     uint64_t places, end = 0;
-    if (length < 4 || get_number(plan + 2, 2) > SECTIONS || length != 4 + entry_of(plan, length) * get_number(plan + 2, 2)) return 7;
-    places = places_of(plan[0], plan[1]);
-    if (places == 0) return 1;
-    for (size_t at = 4; at < length; at += entry_of(plan, length)) {
-        uint64_t offset = get_number(plan + at, 8), size = get_number(plan + at + 8, 8);
-        if (offset < end || offset > places || size < plan[1] || size > places - offset) return 8;
-        end = offset + size;
-    }
+    uint8_t fault = head_fault(plan, length, &places);
+    if (fault != 0) return fault;
+    for (size_t at = 4; at < length; at += entry_of(plan, length))
+        if (!is_straight(get_number(plan + at, 8), get_number(plan + at + 8, 8), plan[1], places, &end)) return 8;
     return 0;
+}
+
+static inline uint8_t price_fault(uint64_t price, uint64_t charge) {
+    return price > STRIP_MOST_PRICE || charge > STRIP_MOST_CHARGE ? 15 : 0;
 }
 
 /* the answer for the window at a place p, if it is laid in a section that holds its first mark; the section's entry is at `at`. 0 if it is not */

@@ -23,6 +23,9 @@ fillings are tried, 4, 16 and 1,296 on the three strips, of which most are laid.
 far. A window of which the misreadings are listed is laid, and so are most of its 60, 90 and 385 changes; both C programs make these in the order of
 the list, and find each place as for place_of.
 
+A bill is of 500 sections, with rails, of up to 4,294,967,295 marks, at any prices and charges. Document 004 has no bills: the column beside it stands
+for the plain way, three times over the sections, for the rules of plans, the lengths and the sum. The best C goes over them once.
+
 Why the library is slower than the best C, as far as parts of a call were measured by themselves (not in this run):
 
 - Turns: two rotations of a random word, as are measured here, differ after a few letters. Of a word that repeats itself or is one letter but for a few, the library compares up to
