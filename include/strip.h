@@ -22,7 +22,7 @@
    more; picture_of as print_marks, and 0.1 ms more for the largest file. The turn of a word that repeats itself, or has a long run of its
    smallest mark, takes up to 1.5 us, and its place up to 4 us. Shorter windows take less. look_up_smudged looks for 2 or 4 places on that
    strip, for up to 1,296 with 36 shades, which take some 0.5 ms. misreadings_of looks for the place of each change of a mark: 60 on that
-   strip, up to 385 with 36 shades, in some 0.1 to 0.2 ms. */
+   strip, up to 385 with 36 shades, in some 0.1 to 0.2 ms. bill_of takes some 2 us for 500 sections. */
 #ifndef STRIP_H
 #define STRIP_H
 #include <stddef.h>
