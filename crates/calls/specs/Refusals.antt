@@ -30,6 +30,8 @@ abbrev pub pictureFault : ℕ → ℕ → ℕ → ℕ → ℕ → ℕ
 pictureFault k n p c h = firstOf (stripFault k n) (firstOf (when (not (eqb k 2)) 12) (firstOf (when (leb (k ^ n) p) 4) (when (not (framed c h)) 13)))
 
 -- 7, 1, 8, then 14: a section has too many marks, then 15: the price or the charge is too high
+abbrev pub priceFault : ℕ → ℕ → ℕ
+priceFault price charge = when (ltb 10000000 price || ltb 4294967295 charge) 15
+
 abbrev pub billFault : List ℕ → ℕ → ℕ → ℕ
-billFault s price charge =
-    firstOf (planFault s) (firstOf (when (not (shortRolls (sections s))) 14) (when (ltb 10000000 price || ltb 4294967295 charge) 15))
+billFault s price charge = firstOf (planFault s) (firstOf (when (not (shortRolls (sections s))) 14) (priceFault price charge))
