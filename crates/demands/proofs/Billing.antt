@@ -5,27 +5,24 @@ use Prim.Native.Nat.{ℕ, _^_, _≤_, _<_}
 use native.Mathlib.Omega.{arith}
 use lib.Dec.{eqb}
 use lib.ListN.{length, drop}
-use borrow.Author.Tests.{le-ltb}
 use Rattle.theory.specs.Words.{pick}
-use Rattle.theory.specs.Plans.{be, sectionCount, sections, nthS, planFault}
+use Rattle.theory.specs.Plans.{be, sections, planFault}
 use Rattle.theory.specs.Prices.{costOf}
 use Rattle.theory.specs.Theorems.{Alike}
 use Rattle.theory.proofs.Records.{alike-fault}
-use Rattle.theory.proofs.Prices.{short-sections, alike}
+use Rattle.theory.proofs.Prices.{alike}
 use Rattle.numbers.specs.Numbers.{putBe}
 use Rattle.calls.specs.declared.Value as DV
 use Rattle.calls.specs.Refusals.{billFault}
 use Rattle.calls.proofs.Answers.{or-room}
 use Rattle.prices.proofs.Billing.{bill-small}
 use Rattle.bills.specs.Says.{BillSays, BillOfSays}
+use Rattle.demands.specs.Refused.{All-short}
+use Rattle.demands.proofs.Faults.{bill-faultless}
 use Rattle.demands.proofs.Trays.{value-fine, answered, tray-back, answer-number, bill-answers, trays}
 
-bill-faultless : (s : List ℕ) (p c : ℕ) → planFault s ≡ 0 → ((i : ℕ) → i < sectionCount s → nthS (sections s) i .long ≤ 4294967295) → p ≤ 10000000
-    → c ≤ 4294967295 → billFault s p c ≡ 0
-bill-faultless s p c good short h g = rw (good, short-sections s .1 short, le-ltb 10000000 p h, le-ltb 4294967295 c g)
-
-pub billed-told : (s : List ℕ) (p c : ℕ) (r : DV.Value) → planFault s ≡ 0 → ((i : ℕ) → i < sectionCount s → nthS (sections s) i .long ≤ 4294967295)
-    → p ≤ 10000000 → c ≤ 4294967295 → BillSays s p c r → (r .number ≡ 0) × (r .value ≡ costOf p c (sections s)) × (r .value < 2 ^ 55)
+pub billed-told : (s : List ℕ) (p c : ℕ) (r : DV.Value) → planFault s ≡ 0 → All-short s → p ≤ 10000000 → c ≤ 4294967295 → BillSays s p c r
+    → (r .number ≡ 0) × (r .value ≡ costOf p c (sections s)) × (r .value < 2 ^ 55)
 billed-told s p c r good short h g e =
     let fine = bill-faultless s p c good short h g in
     let (number, value) = value-fine fine e in

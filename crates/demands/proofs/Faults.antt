@@ -7,11 +7,15 @@ use lib.ListN.{length}
 use borrow.Author.Tests.{eq-eqb}
 use Rattle.theory.specs.Words.{when, howMany, marksOk}
 use Rattle.theory.specs.Strips.{admitted, stripFault}
-use Rattle.calls.specs.Refusals.{theWordFault, indexFault, placeFault, pictureFault}
+use Rattle.theory.specs.Plans.{planFault}
+use Rattle.theory.proofs.Prices.{short-sections}
+use Rattle.calls.specs.Refusals.{theWordFault, indexFault, placeFault, pictureFault, billFault}
 use Rattle.calls.proofs.Checks.{place-fine}
 use Rattle.ranking.proofs.Indexes.{index-fine}
 use Rattle.pbm.specs.Parts.{Frame}
 use Rattle.pictures.proofs.Framing.{frame-out, left}
+use Rattle.bills.proofs.Charging.{rolls-short, price-fine}
+use Rattle.demands.specs.Refused.{All-short}
 
 pub strip-faultless : (k n : ℕ) → admitted k n ≡ true → stripFault k n ≡ 0
 strip-faultless k n a = rw a refl
@@ -27,3 +31,6 @@ place-faultless k n p a h = rw (strip-faultless k n a) (place-fine k n p h)
 
 pub picture-faultless : (n p c h : ℕ) → admitted 2 n ≡ true → p < 2 ^ n → Frame c h → pictureFault 2 n p c h ≡ 0
 picture-faultless n p c h a l f = rw (strip-faultless 2 n a) (left 2 n p c h refl l ∙ ap (λ t. when (not t) 13) (frame-out c h f))
+
+pub bill-faultless : (s : List ℕ) (p c : ℕ) → planFault s ≡ 0 → All-short s → p ≤ 10000000 → c ≤ 4294967295 → billFault s p c ≡ 0
+bill-faultless s p c good short h g = rolls-short p c s good (short-sections s .1 short) ∙ price-fine p c h g

@@ -38,7 +38,7 @@ use Rattle.cursors.specs.declared.Cursor as DC
 use Rattle.cursors.specs.declared.Started as DS
 use Rattle.cursors.specs.declared.Stepped as DT
 use Rattle.cursors.specs.Cursors.{cursorIn, empty, cursorFault, StartSays, WhereSays}
-use Rattle.demands.specs.Refused.{Refusals}
+use Rattle.demands.specs.Refused.{All-short, Refusals}
 use Rattle.demands.specs.Trays.{Trays}
 use Rattle.demands.specs.Walked.{Says, Steps-on, Walked, Followed, fields, passedFrom, pathPassed}
 
@@ -211,8 +211,8 @@ pub record Demands : Type 0 where
   pub misread-both : (s w c c′ t t′ u : List ℕ) (r : DV.Value) (q : ℕ) → 8 ≤ length c → MisreadingsSays s w t t′ r → MisreadingListSays s w c c′ t u q
       → (q ≡ r .number) × (u ≡ t′) × (q ≡ 0 → be 0 8 c′ ≡ r .value)
   -- Bills: bill answers what the sections cost, of each accepted plan without a long one, at each price and charge up to their limits; it fits 55 bits
-  pub billed : (s : List ℕ) (p c : ℕ) (r : DV.Value) → planFault s ≡ 0 → ((i : ℕ) → i < sectionCount s → nthS (sections s) i .long ≤ 4294967295)
-      → p ≤ 10000000 → c ≤ 4294967295 → BillSays s p c r → (r .number ≡ 0) × (r .value ≡ costOf p c (sections s)) × (r .value < 2 ^ 55)
+  pub billed : (s : List ℕ) (p c : ℕ) (r : DV.Value) → planFault s ≡ 0 → All-short s → p ≤ 10000000 → c ≤ 4294967295 → BillSays s p c r
+      → (r .number ≡ 0) × (r .value ≡ costOf p c (sections s)) × (r .value < 2 ^ 55)
   -- bill_of, with 8 bytes, gives the same number and the same bill, and no byte after it
   pub bill-both : (s : List ℕ) (p c : ℕ) (t t′ : List ℕ) (r : DV.Value) (q : ℕ) → 8 ≤ length t → BillSays s p c r → BillOfSays s p c t t′ q
       → (q ≡ r .number) × (q ≡ 0 → be 0 8 t′ ≡ r .value) × (drop 8 t′ ≡ drop 8 t)

@@ -67,9 +67,12 @@ abbrev pub pictureRules : ℕ → ℕ → ℕ → ℕ → ℕ → List Rule
 pictureRules k n p c h =
     stripRules k n ++ (rule 12 (not (eqb k 2)) ∷ rule 4 (leb (k ^ n) p) ∷ rule 13 (not (leb 1 c && (leb c 60000 && (leb 1 h && leb h 64)))) ∷ [])
 
--- a bill: roll too long, no such price
+-- a bill: roll too long, no such price; no roll is too long
 abbrev pub billRules : List ℕ → ℕ → ℕ → List Rule
 billRules s p c = planRules s ++ (rule 14 (not (shortRolls (sections s))) ∷ rule 15 (ltb 10000000 p || ltb 4294967295 c) ∷ [])
+
+abbrev pub All-short : List ℕ → Type 0
+All-short s = (i : ℕ) → i < sectionCount s → nthS (sections s) i .long ≤ 4294967295
 
 -- tray too small for b bytes; one of two trays
 abbrev pub trayRules : List ℕ → ℕ → List Rule
@@ -115,4 +118,4 @@ pub record Refusals : Type 0 where
   pub none-agrees : (s w : List ℕ)
       → (length (fitting s w) ≡ 0) ↔ ((p : ℕ) → p < shades s ^ marks s → laidAt s p ≡ true → agrees w (window (shades s) (marks s) p) ≡ false)
   -- 14 does not apply just when every section has 4,294,967,295 marks at most
-  pub no-long-roll : (s : List ℕ) → (shortRolls (sections s) ≡ true) ↔ ((i : ℕ) → i < sectionCount s → nthS (sections s) i .long ≤ 4294967295)
+  pub no-long-roll : (s : List ℕ) → (shortRolls (sections s) ≡ true) ↔ All-short s
