@@ -55,7 +55,7 @@ pub extern "C" fn print_marks(k: u64, n: u64, place: u64, marks: u64, tray: &mut
     marks::print_marks(k, n, place, marks, tray)
 }
 
-// The section that a window is read in, in 2 bytes, and its distance from the section's start, in 8.
+// The section that a window is read in, in 2 bytes, its distance from the section's start, in 8, and the section's rail, in 2.
 #[no_mangle]
 pub extern "C" fn look_up(plan: &[u8], window: &[u8], tray: &mut [u8]) -> u8
     ensures { λ r. ⌜ LookupSays (now (plan .entry)) (now (window .entry)) (now (tray .entry)) (now (tray .exit)) r ⌝ }
