@@ -1,31 +1,36 @@
--- Where a held word ends: as many letters as the CS of its power has words (document 004, Lemma 22).
+-- Where a held word ends: on the strip as many letters as the CS of its power has words, on the short ring n for each word up to it (document 004,
+-- Lemma 22).
 use mathlib.Core.Path.{_≡_, sym, _∙_, ap, subst}
 use mathlib.Core.Bool.{true}
 use mathlib.Core.List.{List, _++_}
-use Prim.Native.Nat.{ℕ, suc, _+_, _-_, _^_, _≤_}
+use Prim.Native.Nat.{ℕ, suc, _+_, _-_, _*_, _^_, _≤_}
 use native.Mathlib.Omega.{arith}
-use native.Mathlib.Nat.{le-mul-of-pos-right}
+use native.Mathlib.Nat.{le-mul-of-pos-right, mul-le-mul-left}
 use lib.ListN.{length, take}
 use lib.Seq.{take-append-seam}
 use Rattle.shape.specs.declared.Strip as DS
-use Rattle.shape.specs.Shapes.{WordOn}
+use Rattle.shape.specs.declared.Lengths.{Lengths}
+use Rattle.shape.specs.declared.Lengths.the-variants.{Divisors, Whole}
+use Rattle.shape.specs.Shapes.{Shaped, WordOn}
+use Rattle.shape.specs.Rings.{okOf}
+use Rattle.shape.proofs.Rings.{allowed-of, size-most}
 use Rattle.shape.proofs.Limits.{limits}
-use Rattle.automaton.specs.Tables.{Counted}
-use Rattle.ranks.proofs.Shapes.{counted}
 use Rattle.rings.specs.Moves.{HeldOn}
 use Rattle.rings.proofs.Moving.{held-length, held-in}
-use Rattle.theory.specs.Words.{repeated, marksOk, powerTo}
-use Rattle.theory.specs.Sums.{cs}
+use Rattle.theory.specs.Words.{repeated, marksOk, powerTo, howMany, rank}
+use Rattle.theory.specs.Lists.{In}
 use Rattle.theory.specs.Steps.{extension}
-use Rattle.theory.specs.Rings.{divides, beforeW}
-use Rattle.theory.specs.Strips.{stripWords}
+use Rattle.theory.specs.Rings.{ringWords, beforeW}
 use Rattle.theory.specs.Prenecklaces.{Prenecklace}
 use Rattle.theory.proofs.Letters.{marks-repeated}
 use Rattle.theory.proofs.Lyndon.{necklace-pre}
 use Rattle.theory.proofs.Powers.{repeated-add, repeated-length}
 use Rattle.theory.proofs.Necklaces.{power-necklace}
-use Rattle.theory.proofs.Rotations.{Fits, fits, power-is, power-length}
-use Rattle.theory.proofs.Ends.{strip-ends}
+use Rattle.theory.proofs.Rotations.{Fits, power-is, power-length, power-self, ring-fits}
+use Rattle.theory.proofs.Levels.{rank-most}
+use Rattle.theory.proofs.Ends.{strip-ends, short-ends}
+use Rattle.theory.proofs.Shorts.{short-words}
+use Rattle.access.specs.Holders.{endIn}
 
 -- the word repeated to the end of n letters is its power
 extension-power : {n : ℕ} {u : List ℕ} → Fits n u → extension n u ≡ powerTo n u
@@ -37,12 +42,26 @@ extension-power {n} {u} m =
     ∙ ap (λ i. take i (repeated (suc (m .times)) u ++ repeated (n - suc (m .times)) u)) (sym long)
     ∙ take-append-seam (repeated (suc (m .times)) u) (repeated (n - suc (m .times)) u) ∙ sym (power-is m)
 
-module _ {s : DS.Strip} {w : List ℕ} {long : ℕ} (h : HeldOn s w long) {v : List ℕ} (e : v ≡ extension (length w) (take long w)) where
+-- a word of a ring ends where so many letters are
+ends-in : (lengths : Lengths) {s : DS.Strip} (u : List ℕ) → Shaped s → In u (ringWords (okOf lengths (s .n)) (s .k) (s .n)) → Fits (s .n) u
+    → beforeW u (ringWords (okOf lengths (s .n)) (s .k) (s .n)) + length u ≡ endIn lengths s (powerTo (s .n) u)
+ends-in Divisors {s} u h i fit = strip-ends (s .k) (s .n) u (limits h .some) i
+ends-in Whole {s} u h i fit =
+    short-ends (s .k) (s .n) u (limits h .some) i ∙ ap (λ x. s .n * rank (s .k) x) (sym (power-self fit (short-words (s .k) (s .n) u .0 i .0)))
+
+-- no word ends behind the short ring
+pub rank-fits : {s : DS.Strip} {v : List ℕ} → WordOn s v → s .n * rank (s .k) v ≤ 2 ^ 60
+rank-fits {s} {v} h =
+    let r = limits (h .shaped) in
+    let most : rank (s .k) v ≤ howMany (s .k) (s .n) = subst (λ m. rank (s .k) v ≤ howMany (s .k) m) (h .long) (rank-most (s .k) v) in
+    omega (arith, mul-le-mul-left (s .n) most, size-most Whole (s .k) (s .n) (r .two) (r .some), r .range)
+
+module _ {lengths : Lengths} {s : DS.Strip} {w : List ℕ} {long : ℕ} (h : HeldOn lengths s w long) {v : List ℕ} (e : v ≡ extension (length w) (take long w)) where
   abbrev u : List ℕ
   u = take long w
 
   fit : Fits (s .n) u
-  fit = fits (limits (h .shaped) .some) (h .lyndon) (ap (λ d. divides d (s .n)) (held-length h) ∙ h .allowed)
+  fit = ring-fits (okOf lengths (s .n)) (s .k) (s .n) (limits (h .shaped) .some) (allowed-of lengths (s .n) (limits (h .shaped) .some)) (held-in h)
 
   is-power : v ≡ powerTo (s .n) u
   is-power = e ∙ ap (λ n. extension n u) (h .size) ∙ extension-power fit
@@ -54,15 +73,11 @@ module _ {s : DS.Strip} {w : List ℕ} {long : ℕ} (h : HeldOn s w long) {v : L
     marks = subst (λ x. marksOk (s .k) x ≡ true) (sym (is-power ∙ power-is fit)) (marks-repeated (s .k) (suc (fit .times)) u (h .marks));
   }
 
-  pub ending-asks : Counted (s .k) v × Prenecklace v × (s .size ≡ s .k ^ length v)
-  ending-asks = (
-    counted word,
-    subst Prenecklace (sym (is-power ∙ power-is fit)) (necklace-pre (power-necklace (suc (fit .times)) (fit .lyndon))),
-    h .shaped .size ∙ ap (λ m. s .k ^ m) (sym (word .long)),
-  )
+  pub ending-asks : WordOn s v × Prenecklace v
+  ending-asks = (word, subst Prenecklace (sym (is-power ∙ power-is fit)) (necklace-pre (power-necklace (suc (fit .times)) (fit .lyndon))))
 
   -- the end of the word
-  pub ends-at : {end : ℕ} → end ≡ cs (s .k) v → beforeW u (stripWords (s .k) (s .n)) + long ≡ end
+  pub ends-at : {end : ℕ} → end ≡ endIn lengths s v → beforeW u (ringWords (okOf lengths (s .n)) (s .k) (s .n)) + long ≡ end
   ends-at {end} g =
-      ap (λ l. beforeW u (stripWords (s .k) (s .n)) + l) (sym (held-length h))
-      ∙ strip-ends (s .k) (s .n) u (limits (h .shaped) .some) (held-in h) ∙ ap (cs (s .k)) (sym is-power) ∙ sym g
+      ap (λ l. beforeW u (ringWords (okOf lengths (s .n)) (s .k) (s .n)) + l) (sym (held-length h))
+      ∙ ends-in lengths u (h .shaped) (held-in h) fit ∙ ap (endIn lengths s) (sym is-power) ∙ sym g

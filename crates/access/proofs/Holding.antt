@@ -1,21 +1,27 @@
--- The least word whose CS has more than p words: its root word holds the position p.
-use mathlib.Core.Path.{_≡_, sym, _∙_, ap, ap₂, subst}
+-- The word that holds the position p: on the strip the root word of the least word whose CS has more than p words, on the short ring the word whose
+-- index p tells.
+use mathlib.Core.Path.{_≡_, refl, sym, _∙_, ap, ap₂, subst}
 use mathlib.Core.Bool.{true}
 use mathlib.Core.List.{List, []}
-use Prim.Native.Nat.{ℕ, _+_, _-_, _^_, _≤_, _<_}
+use Prim.Native.Nat.{ℕ, _+_, _-_, _/_, _%_, _^_, _≤_, _<_}
 use native.Mathlib.Omega.{arith}
 use lib.Dec.{ltb}
 use lib.ListN.{length, take, drop}
-use lib.Seq.{take-at, drop-at}
-use borrow.Author.Tests.{ltb-true}
-use Rattle.theory.specs.Words.{smallest, root, marksOk, isLyndon}
+use native.Mathlib.Nat.{mod-lt}
+use native.Mathlib.Numerals.{add-one}
+use lib.Seq.{take-at, take-all, drop-at}
+use borrow.Author.Tests.{ltb-true, eq-eqb}
+use Rattle.theory.specs.Words.{smallest, root, marksOk, isLyndon, howMany, wordOf}
 use Rattle.theory.specs.Sums.{cs}
 use Rattle.theory.specs.Rings.{Cursor, cursor, beforeW}
 use Rattle.theory.specs.Strips.{divisorOf, stripWords, cursorAt}
+use Rattle.theory.specs.Shorts.{shortSize}
 use Rattle.theory.specs.Search.{leastWord}
 use Rattle.theory.proofs.Base.{and-r}
 use Rattle.theory.proofs.Cursors.{at-kept}
 use Rattle.theory.proofs.Strips.{cursors}
+use Rattle.theory.proofs.Ranks.{index-word}
+use Rattle.theory.proofs.Shorts.{index-few, short-ring}
 use Rattle.theory.proofs.Positions.{by-cs, word-fits}
 use Rattle.theory.proofs.Locating.{Root-word, root-word}
 use Rattle.theory.proofs.Letters.{marks-take}
@@ -23,8 +29,11 @@ use Rattle.theory.specs.Prenecklaces.{Prenecklace}
 use Rattle.theory.proofs.Necklaces.{smallest-pre}
 use Rattle.theory.proofs.Divisors.{divides-le}
 use Rattle.shape.specs.declared.Strip as DS
+use Rattle.shape.specs.declared.Lengths.{Lengths}
+use Rattle.shape.specs.declared.Lengths.the-variants.{Divisors, Whole}
 use Rattle.shape.specs.Shapes.{Shaped, WordOn}
 use Rattle.shape.proofs.Limits.{limits}
+use Rattle.shape.proofs.Rings.{size-most}
 use Rattle.automaton.specs.Tables.{Counted}
 use Rattle.buffers.specs.Buffers.{over}
 use Rattle.rings.specs.Moves.{HeldOn}
@@ -102,19 +111,47 @@ module _ {s : DS.Strip} (p : ℕ) {v : List ℕ} (h : Shaped s) (l : p < s .size
       let r = limits h in
       (omega (arith, divides-le (root v) (s .n) (r .some) (hold .rooted .divisor), r .short), hold .enough, omega (arith, l, h .size, r .range))
 
-  pub holder-is : {r : DP.Spot} → r .long ≡ root v → r .at ≡ p + root v - cs (s .k) v → HoldsAt s p v r
+  pub holder-is : {r : DP.Spot} → r .long ≡ root v → r .at ≡ p + root v - cs (s .k) v → HoldsAt Divisors s p v r
   holder-is {r} a b = record {
-    held = subst (HeldOn s v) (sym a) held;
+    held = subst (HeldOn Divisors s v) (sym a) held;
     inside = omega (arith, hold .inside);
     is = ap₂ (λ x y. cursor (s .k) (s .n) (take x v) y) a b ∙ hold .is;
   }
     where
-      held : HeldOn s v (root v)
+      held : HeldOn Divisors s v (root v)
       held = record { shaped = h; size = hold .long; allowed = hold .rooted .divisor; marks = marks-take (s .k) (root v) v (hold .marks); lyndon = hold .rooted .lyndon }
 
+-- the short ring
+module _ {s : DS.Strip} (p : ℕ) (h : Shaped s) (l : p < shortSize (s .k) (s .n)) where
+  -- the index is that of a word
+  pub index-within : (1 ≤ p / s .n + 1) × (p / s .n + 1 ≤ howMany (s .k) (s .n))
+  index-within = let r = limits h in let few = index-few (s .k) (s .n) (r .two) (r .some) p l in (omega arith, omega (arith, few))
+
+  pub index-small : (p < 2 ^ 60) × (p % s .n < s .n) × (s .n ≤ 60)
+  index-small =
+      let r = limits h in
+      (omega (arith, size-most Whole (s .k) (s .n) (r .two) (r .some), r .range), mod-lt p (r .some), r .short)
+
+  pub short-is : {v : List ℕ} {r : DP.Spot} → v ≡ wordOf (s .k) (s .n) (p / s .n + 1) → r .long ≡ s .n → r .at ≡ p % s .n → HoldsAt Whole s p v r
+  short-is {v} {r} e a b = record {
+    held = subst (HeldOn Whole s v) (sym a) (record { shaped = h; size = long; allowed = eq-eqb (s .n) (s .n) refl; marks = ap (marksOk (s .k)) word ∙ fits .1; lyndon = ap isLyndon word ∙ fits .2 });
+    inside = omega (arith, index-small);
+    is = ap₂ (λ x y. cursor (s .k) (s .n) (take x v) y) a b ∙ ap (λ u. cursor (s .k) (s .n) u (p % s .n)) (word ∙ ap (wordOf (s .k) (s .n)) (add-one (p / s .n))) ∙ sym (short-ring (s .k) (s .n) (limits h .two) (limits h .some) .at-place p l);
+  }
+    where
+      fits : (length (wordOf (s .k) (s .n) (p / s .n + 1)) ≡ s .n) × (marksOk (s .k) (wordOf (s .k) (s .n) (p / s .n + 1)) ≡ true) × (isLyndon (wordOf (s .k) (s .n) (p / s .n + 1)) ≡ true)
+      fits = index-word (s .k) (s .n) (p / s .n + 1) (index-within .0) (index-within .1)
+
+      long : length v ≡ s .n
+      long = ap length e ∙ fits .0
+
+      word : take (s .n) v ≡ wordOf (s .k) (s .n) (p / s .n + 1)
+      word = take-all (s .n) v (omega (arith, long)) ∙ e
+
 -- the word copied over the start of another buffer
-pub put-at : {s : DS.Strip} {p : ℕ} {v before after : List ℕ} {r : DP.Spot} → HoldsAt s p v r → after ≡ over (take (r .long) v) before → PutAt s p before after r
-put-at {s} {p} {v} {before} {after} {r} h e =
+pub put-at : {lengths : Lengths} {s : DS.Strip} {p : ℕ} {v before after : List ℕ} {r : DP.Spot} → HoldsAt lengths s p v r → after ≡ over (take (r .long) v) before
+    → PutAt lengths s p before after r
+put-at {lengths} {s} {p} {v} {before} {after} {r} h e =
     let long : length (take (r .long) v) ≡ r .long = held-length (h .held) in
     let word : take (r .long) after ≡ take (r .long) v = ap (take (r .long)) e ∙ take-at (take (r .long) v) _ (r .long) long in
     record {

@@ -3,11 +3,11 @@ use mathlib.Core.Path.{_≡_, refl, sym, _∙_, ap, ap₂, subst}
 use mathlib.Core.Bool.{Bool, true, false, not}
 use mathlib.Core.List.{List}
 use mathlib.Core.Logic.{inl, inr}
-use Prim.Native.Nat.{ℕ, _^_, _≤_, _<_}
+use Prim.Native.Nat.{ℕ, _^_}
 use native.Mathlib.Omega.{arith}
-use lib.Dec.{eqb, leb}
+use lib.Dec.{eqb}
 use lib.ListN.{length}
-use borrow.Author.Tests.{eqb-true, eqb-false, eq-eqb, ne-eqb, leb-false, le-leb, lt-leb, not-false}
+use borrow.Author.Tests.{eqb-true, eqb-false, eq-eqb, ne-eqb, not-false}
 use Rattle.theory.specs.Words.{firstOf, when, marksOk}
 use Rattle.theory.specs.Strips.{admitted, stripFault}
 use Rattle.theory.specs.Plans.{wordFault}
@@ -20,7 +20,7 @@ use Rattle.shape.specs.Shapes.{Makes, Shaped, WordOn}
 use Rattle.shape.proofs.Making.{made-strip, made-none}
 use Rattle.calls.specs.declared.Checked.{Checked}
 use Rattle.calls.specs.declared.Checked.the-variants.{Strip, Refused}
-use Rattle.calls.specs.Refusals.{theWordFault, placeFault}
+use Rattle.calls.specs.Refusals.{theWordFault}
 use Rattle.calls.specs.Checks.{checkedBy, stripOf, Checks}
 
 -- how the answer is found
@@ -115,13 +115,6 @@ module _ (k n : ℕ) (w : List ℕ) where
   pub word-marked : {t : Bool} → length w ≡ n → t ≡ marksOk k w → wordFault k n w ≡ when (not t) 3
   word-marked h e = rw (eq-eqb (length w) n h, e)
 
--- a place, and its fault
-pub place-large : (k n p : ℕ) → k ^ n ≤ p → when (leb (k ^ n) p) 4 ≡ 4
-place-large k n p h = rw (le-leb (k ^ n) p h)
-
-pub place-fine : (k n p : ℕ) → p < k ^ n → when (leb (k ^ n) p) 4 ≡ 0
-place-fine k n p h = rw (lt-leb (k ^ n) p h)
-
 -- each check, passed
 module _ (k n : ℕ) {c : Checked} {s : DS.Strip} where
   pub strip-checked : Checks (stripFault k n) k n c → c ≡ Strip s → StripIs k n s
@@ -132,9 +125,3 @@ module _ (k n : ℕ) {c : Checked} {s : DS.Strip} where
       let on = strip-is (theWordFault k n w) k n (λ z. first-none (stripFault k n) _ z .0) e g in
       let (long, marks) = word-fine k n w (first-none (stripFault k n) _ (passed (theWordFault k n w) k n e g .0) .1) in
       (on, record { shaped = on .shaped; long = long ∙ sym (on .marks); marks = subst (λ x. marksOk x w ≡ true) (sym (on .letters)) marks })
-
-  pub place-checked : (p : ℕ) → Checks (placeFault k n p) k n c → c ≡ Strip s → StripIs k n s × (p < s .size)
-  place-checked p e g =
-      let on = strip-is (placeFault k n p) k n (λ z. first-none (stripFault k n) _ z .0) e g in
-      let below : p < k ^ n = leb-false (k ^ n) p (when-none _ 4 (λ z. omega arith) (first-none (stripFault k n) _ (passed (placeFault k n p) k n e g .0) .1)) in
-      (on, omega (arith, below, strip-size on))

@@ -94,6 +94,10 @@ pub word-tray-number : (a b c d : Bool)
     → firstOf (firstOf (when a 1) (firstOf (when b 2) (when c 3))) (when d 6) ≡ given (rule 1 a ∷ rule 2 b ∷ rule 3 c ∷ rule 6 d ∷ [])
 word-tray-number a b c d = in-order (rule 1 a ∷ rule 2 b ∷ rule 3 c ∷ rule 6 d ∷ []) (simp (first-assoc, first-zero)) refl
 
+pub short-window-tray-number : (a b c e d : Bool)
+    → firstOf (firstOf (firstOf (when a 1) (firstOf (when b 2) (when c 3))) (when e 16)) (when d 6) ≡ given (rule 1 a ∷ rule 2 b ∷ rule 3 c ∷ rule 16 e ∷ rule 6 d ∷ [])
+short-window-tray-number a b c e d = in-order (rule 1 a ∷ rule 2 b ∷ rule 3 c ∷ rule 16 e ∷ rule 6 d ∷ []) (simp (first-assoc, first-zero)) refl
+
 pub place-tray-number : (a b d : Bool) → firstOf (firstOf (when a 1) (when b 4)) (when d 6) ≡ given (rule 1 a ∷ rule 4 b ∷ rule 6 d ∷ [])
 place-tray-number a b d = in-order (rule 1 a ∷ rule 4 b ∷ rule 6 d ∷ []) (simp (first-assoc, first-zero)) refl
 

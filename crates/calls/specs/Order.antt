@@ -7,7 +7,7 @@ use lib.Dec.{eqb}
 use Rattle.theory.specs.Words.{pick}
 
 abbrev pub order : List ℕ
-order = 7 ∷ 1 ∷ 12 ∷ 8 ∷ 14 ∷ 15 ∷ 10 ∷ 2 ∷ 11 ∷ 3 ∷ 4 ∷ 13 ∷ 5 ∷ 9 ∷ 6 ∷ []
+order = 7 ∷ 1 ∷ 12 ∷ 8 ∷ 14 ∷ 15 ∷ 10 ∷ 2 ∷ 11 ∷ 3 ∷ 16 ∷ 4 ∷ 13 ∷ 5 ∷ 9 ∷ 6 ∷ []
 
 -- a number, and whether it applies
 pub record Rule : Type 0 where

@@ -5,7 +5,10 @@ use mathlib.Core.Bool.{Bool, _&&_, _||_, not}
 use mathlib.Core.List.{List}
 use Prim.Native.Nat.{ℕ, _^_}
 use lib.Dec.{eqb, ltb, leb}
-use Rattle.theory.specs.Words.{firstOf, when, howMany}
+use Rattle.theory.specs.Words.{firstOf, when, root, howMany}
+use Rattle.shape.specs.declared.Lengths.{Lengths}
+use Rattle.shape.specs.declared.Lengths.the-variants.{Divisors, Whole}
+use Rattle.shape.specs.Rings.{sizeOf}
 use Rattle.theory.specs.Strips.{stripFault}
 use Rattle.theory.specs.Plans.{sections, planFault, wordFault}
 use Rattle.theory.specs.Prices.{shortRolls}
@@ -18,9 +21,19 @@ theWordFault k n w = firstOf (stripFault k n) (wordFault k n w)
 abbrev pub indexFault : ℕ → ℕ → ℕ → ℕ
 indexFault k n i = firstOf (stripFault k n) (when (eqb i 0 || ltb (howMany k n) i) 5)
 
--- 1, then 4: the place is not below k^n
+-- 1, 2, 3, then 16: the window is a shorter word repeated, which the short ring does not read
+abbrev pub shortWindowFault : ℕ → ℕ → List ℕ → ℕ
+shortWindowFault k n w = firstOf (theWordFault k n w) (when (ltb (root w) n) 16)
+
+-- 1, then 4: the place is not on the ring; k^n is not on the strip, nor n times the number of Lyndon words of length n on the short ring
+abbrev pub ringFault : Lengths → ℕ → ℕ → ℕ → ℕ
+ringFault lengths k n p = firstOf (stripFault k n) (when (leb (sizeOf lengths k n) p) 4)
+
 abbrev pub placeFault : ℕ → ℕ → ℕ → ℕ
-placeFault k n p = firstOf (stripFault k n) (when (leb (k ^ n) p) 4)
+placeFault k n p = ringFault Divisors k n p
+
+abbrev pub shortPlaceFault : ℕ → ℕ → ℕ → ℕ
+shortPlaceFault k n p = ringFault Whole k n p
 
 -- 1, then 12: k is not 2, then 4, then 13: the width is not from 1 to 60,000 or the height not from 1 to 64
 abbrev pub framed : ℕ → ℕ → Bool

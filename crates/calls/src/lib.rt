@@ -1,6 +1,6 @@
 // What all calls share: the numbers of refusals, arguments that are checked before a call goes on, and numbers as answers.
 ghost use Rattle.theory.specs.Strips.{stripFault};
-ghost use Rattle.calls.specs.Refusals.{theWordFault, placeFault};
+ghost use Rattle.calls.specs.Refusals.{theWordFault};
 ghost use Rattle.calls.specs.Checks.{Checks};
 ghost use Rattle.calls.specs.Answers.{Number};
 use shape::Made;
@@ -47,19 +47,6 @@ pub fn check_word(k: u64, n: u64, word: &[u8]) -> Checked
         return Checked::Strip(strip);
     }
     Checked::Refused(refusals::BAD_MARK)
-}
-
-// And is it a place on it?
-pub fn check_place(k: u64, n: u64, place: u64) -> Checked
-    ensures { λ r. ⌜ Checks (placeFault k n place) k n r ⌝ }
-{
-    let Made::Fine(strip) = Strip::new(k, n) else {
-        return Checked::Refused(refusals::NO_SUCH_STRIP);
-    };
-    if strip.size <= place {
-        return Checked::Refused(refusals::OFF_THE_STRIP);
-    }
-    Checked::Strip(strip)
 }
 
 // A number into a tray, the highest byte first; 6 if the tray is too small.

@@ -1,4 +1,4 @@
-// The table of refusals: the numbers that a call gives back instead of an answer. If several apply, the order is 7, 1, 12, 8, 14, 15, 10, 2, 11, 3, 4, 13, 5, 9, 6.
+// The table of refusals: the numbers that a call gives back instead of an answer. If several apply, the order is 7, 1, 12, 8, 14, 15, 10, 2, 11, 3, 16, 4, 13, 5, 9, 6.
 pub const NO_SUCH_STRIP: u8 = 1;
 
 pub const WRONG_WINDOW: u8 = 2;
@@ -28,3 +28,5 @@ pub const BAD_PICTURE: u8 = 13;
 pub const ROLL_TOO_LONG: u8 = 14;
 
 pub const NO_SUCH_PRICE: u8 = 15;
+
+pub const REPEATING_WINDOW: u8 = 16;

@@ -9,13 +9,15 @@ use lib.ListN.{length, take, drop, replicate, length-drop, take-append-drop}
 use lib.Seq.{length-take-le, take-take, take-all}
 use borrow.Author.Tests.{le-ltb, le-leb, lt-leb, leb-true, ltb-true, ne-eqb, eq-eqb, eqb-true}
 use Rattle.theory.specs.Words.{marksOk, isLyndon}
-use Rattle.theory.specs.Rings.{divides}
-use Rattle.theory.specs.Strips.{cursorOk}
+use Rattle.theory.specs.Rings.{divides, goodIn}
 use Rattle.theory.proofs.Base.{and-l, and-r, and-in, and-false}
 use Rattle.rings.specs.Moves.{HeldOn}
-use Rattle.shape.proofs.Limits.{limits}
 use Rattle.theory.proofs.Divisors.{divides-le}
 use Rattle.shape.specs.declared.Strip as DH
+use Rattle.shape.specs.declared.Lengths.{Lengths}
+use Rattle.shape.specs.Rings.{okOf}
+use Rattle.shape.proofs.Limits.{limits}
+use Rattle.shape.proofs.Rings.{allowed-of}
 use Rattle.cursors.specs.declared.Cursor as DC
 use Rattle.cursors.specs.Cursors.{allZero, cursorIn, tidy, GoodOn}
 
@@ -39,20 +41,24 @@ module _ (c : DC.Cursor) (sixty : length (c .word) ≡ 60) where
   tidy-by : tidy c ≡ (leb (c .long) 60 && allZero (drop (c .long) (c .word)))
   tidy-by = ap (λ b. b && (leb (c .long) 60 && allZero (drop (c .long) (c .word)))) (eq-eqb (length (c .word)) 60 sixty)
 
-  pub too-long : 60 < c .long → (tidy c && cursorOk (cursorIn c)) ≡ false
-  too-long h = ap (λ t. t && cursorOk (cursorIn c)) (tidy-by ∙ ap (λ t. t && allZero (drop (c .long) (c .word))) (lt-leb (c .long) 60 h))
-
   tested : {t : Bool} → t ≡ marksOk 1 (take (60 - c .long) (drop (c .long) (c .word))) → t ≡ allZero (drop (c .long) (c .word))
   tested e =
       let rest : take (60 - c .long) (drop (c .long) (c .word)) ≡ drop (c .long) (c .word) =
       take-all (60 - c .long) (drop (c .long) (c .word)) (omega (arith, length-drop (c .long) (c .word), sixty)) in
       e ∙ ap (marksOk 1) rest ∙ zero-marks (drop (c .long) (c .word))
 
-  pub untidy : false ≡ marksOk 1 (take (60 - c .long) (drop (c .long) (c .word))) → (tidy c && cursorOk (cursorIn c)) ≡ false
-  untidy e = ap (λ t. t && cursorOk (cursorIn c)) (tidy-by ∙ and-false (leb (c .long) 60) _ (sym (tested e)))
+module _ (lengths : Lengths) (c : DC.Cursor) (sixty : length (c .word) ≡ 60) where
+  abbrev on-ring : Bool
+  on-ring = goodIn (okOf lengths) (cursorIn c)
 
-  pub tidied : c .long ≤ 60 → true ≡ marksOk 1 (take (60 - c .long) (drop (c .long) (c .word))) → (tidy c && cursorOk (cursorIn c)) ≡ cursorOk (cursorIn c)
-  tidied h e = ap (λ b. b && cursorOk (cursorIn c)) (tidy-by ∙ and-in (le-leb (c .long) 60 h) (sym (tested e)))
+  pub too-long : 60 < c .long → (tidy c && on-ring) ≡ false
+  too-long h = ap (λ t. t && on-ring) (tidy-by c sixty ∙ ap (λ t. t && allZero (drop (c .long) (c .word))) (lt-leb (c .long) 60 h))
+
+  pub untidy : false ≡ marksOk 1 (take (60 - c .long) (drop (c .long) (c .word))) → (tidy c && on-ring) ≡ false
+  untidy e = ap (λ t. t && on-ring) (tidy-by c sixty ∙ and-false (leb (c .long) 60) _ (sym (tested c sixty e)))
+
+  pub tidied : c .long ≤ 60 → true ≡ marksOk 1 (take (60 - c .long) (drop (c .long) (c .word))) → (tidy c && on-ring) ≡ on-ring
+  tidied h e = ap (λ b. b && on-ring) (tidy-by c sixty ∙ and-in (le-leb (c .long) 60 h) (sym (tested c sixty e)))
 
 -- a tidy cursor, and back
 pub tidy-in : (c : DC.Cursor) → length (c .word) ≡ 60 → c .long ≤ 60 → allZero (drop (c .long) (c .word)) ≡ true → tidy c ≡ true
@@ -99,37 +105,37 @@ same-bytes c d s t e = fields-same (ap (λ x. x .k) e) (ap (λ x. x .n) e) whole
         ∙ ap₂ (λ word long. record { k = d .k; n = d .n; word = word; long = long; place = c .place }) w l
         ∙ ap (λ place. record { k = d .k; n = d .n; word = d .word; long = d .long; place = place }) p
 
--- a cursor without fault
-pub record Good (c : DC.Cursor) : Type 0 where
+-- a cursor without fault on the ring
+pub record Good (lengths : Lengths) (c : DC.Cursor) : Type 0 where
   pub sixty : length (c .word) ≡ 60
   pub fits : c .long ≤ 60
   pub zeroed : allZero (drop (c .long) (c .word)) ≡ true
-  pub allowed : divides (length (take (c .long) (c .word))) (c .n) ≡ true
+  pub allowed : okOf lengths (c .n) (length (take (c .long) (c .word))) ≡ true
   pub marks : marksOk (c .k) (take (c .long) (c .word)) ≡ true
   pub lyndon : isLyndon (take (c .long) (c .word)) ≡ true
   pub inside : c .place < length (take (c .long) (c .word))
 
-pub good : {c : DC.Cursor} → (tidy c && cursorOk (cursorIn c)) ≡ true → Good c
-good {c} h =
+pub good : (lengths : Lengths) {c : DC.Cursor} → (tidy c && goodIn (okOf lengths) (cursorIn c)) ≡ true → Good lengths c
+good lengths {c} h =
     let (sixty, fits, zeroed) = tidy-out c (and-l (tidy c) _ h) in
-    let o : cursorOk (cursorIn c) ≡ true = and-r (tidy c) _ h in
+    let o : goodIn (okOf lengths) (cursorIn c) ≡ true = and-r (tidy c) _ h in
     let u : List ℕ = take (c .long) (c .word) in
-    let a = and-r (divides (length u) (c .n)) _ o in
+    let a = and-r (okOf lengths (c .n) (length u)) _ o in
     let b = and-r (marksOk (c .k) u) _ a in
     record {
       sixty = sixty;
       fits = fits;
       zeroed = zeroed;
-      allowed = and-l (divides (length u) (c .n)) _ o;
+      allowed = and-l (okOf lengths (c .n) (length u)) _ o;
       marks = and-l (marksOk (c .k) u) _ a;
       lyndon = and-l (isLyndon u) _ b;
       inside = ltb-true (c .place) (length u) (and-r (isLyndon u) _ b);
     }
 
--- it holds a word of its strip, in the first n bytes
-module _ {s : DH.Strip} {c : DC.Cursor} (g : GoodOn s c) where
-  pub fine : Good c
-  fine = good {c = c} (g .good)
+-- it holds a word of the ring, in the first n bytes
+module _ {lengths : Lengths} {s : DH.Strip} {c : DC.Cursor} (g : GoodOn lengths s c) where
+  pub fine : Good lengths c
+  fine = good lengths {c = c} (g .good)
 
   pub held-short : c .n ≤ 60
   held-short = omega (arith, limits (g .shaped) .short, g .marks)
@@ -141,7 +147,9 @@ module _ {s : DH.Strip} {c : DC.Cursor} (g : GoodOn s c) where
   word-long = length-take-le (c .long) (c .word) (omega (arith, fine .fits, fine .sixty))
 
   pub word-short : c .long ≤ c .n
-  word-short = divides-le (c .long) (c .n) (omega (arith, limits (g .shaped) .some, g .marks)) (ap (λ l. divides l (c .n)) (sym word-long) ∙ fine .allowed)
+  word-short =
+      let some : 1 ≤ c .n = omega (arith, limits (g .shaped) .some, g .marks) in
+      divides-le (c .long) (c .n) some (ap (λ l. divides l (c .n)) (sym word-long) ∙ allowed-of lengths (c .n) some .divisor _ (fine .allowed))
 
   pub place-inside : c .place < c .long
   place-inside = omega (arith, word-long, fine .inside)
@@ -152,12 +160,12 @@ module _ {s : DH.Strip} {c : DC.Cursor} (g : GoodOn s c) where
   pub same-word : take (c .long) (take (c .n) (c .word)) ≡ take (c .long) (c .word)
   same-word = take-take (c .long) (c .n) (c .word) word-short
 
-  pub held-on : HeldOn s (take (c .n) (c .word)) (c .long)
+  pub held-on : HeldOn lengths s (take (c .n) (c .word)) (c .long)
   held-on =
       record {
         shaped = g .shaped;
         size = length-take-le (c .n) (c .word) (omega (arith, held-short, fine .sixty)) ∙ sym (g .marks);
-        allowed = ap₂ divides (sym word-long) (g .marks) ∙ fine .allowed;
+        allowed = ap₂ (okOf lengths) (g .marks) (sym word-long) ∙ fine .allowed;
         marks = ap₂ marksOk (g .letters) same-word ∙ fine .marks;
         lyndon = ap isLyndon same-word ∙ fine .lyndon;
       }

@@ -1,4 +1,4 @@
--- A cursor without fault, moved on or back: to a neighbouring letter of its word, or to a neighbouring word of the strip. And where it stands.
+-- A cursor without fault, moved on or back: to a neighbouring letter of its word, or to a neighbouring word of the ring. And where it stands.
 use mathlib.Core.Path.{_≡_, refl, sym, _∙_, ap, subst, subst₂}
 use mathlib.Core.Bool.{true, false}
 use mathlib.Core.List.{List, [], _∷_, _++_, append-assoc}
@@ -9,18 +9,17 @@ use lib.Dec.{eqb, ltb}
 use lib.ListN.{length, getD, take, drop, replicate, length-append, length-drop}
 use lib.Seq.{getD-take, take-at, drop-at, drop-drop}
 use borrow.Author.Tests.{lt-ltb, le-ltb}
-use Rattle.theory.specs.Rings.{cursor, passedTo, passedDown}
-use Rattle.theory.specs.Strips.{divisorOf, nextWord, previousWord, placeIn, stepOf, backOf}
+use Rattle.theory.specs.Rings.{cursor, nextOn, previousOn, passedTo, passedDown, positionIn, stepIn, backIn}
 use Rattle.theory.proofs.Base.{and-l, and-r, and-in}
 use Rattle.theory.proofs.Lyndon.{lyndon-some}
 use Rattle.theory.proofs.Listed.{lyndon-up-words}
 use Rattle.rings.specs.Moves.{MovedTo, MovedIs, BackIs}
 use Rattle.rings.specs.declared.Moved as DM
 use Rattle.rings.proofs.Directions.{Direction, Laws}
-use Rattle.rings.proofs.Ways.{strip-forth, strip-back}
-use Rattle.rings.proofs.Moving.{padded-length, held-in}
+use Rattle.rings.proofs.Moving.{padded-length, held-in, forth-on, back-on}
 use Rattle.shape.specs.declared.Strip as DH
-use Rattle.shape.proofs.Limits.{limits}
+use Rattle.shape.specs.declared.Lengths.{Lengths}
+use Rattle.shape.specs.Rings.{okOf}
 use Rattle.cursors.specs.declared.Cursor as DC
 use Rattle.cursors.specs.declared.Stepped as DT
 use Rattle.cursors.specs.Cursors.{allZero, cursorIn, Is, GoodOn, moved, Goes}
@@ -30,7 +29,7 @@ zeros-append : (u v : List ℕ) → allZero u ≡ true → allZero v ≡ true �
 zeros-append [] v a b = b
 zeros-append (x ∷ u) v a b = and-in (and-l (eqb x 0) _ a) (zeros-append u v (and-r (eqb x 0) _ a) b)
 
-module _ {s : DH.Strip} {c : DC.Cursor} (g : GoodOn s c) where
+module _ {lengths : Lengths} {s : DH.Strip} {c : DC.Cursor} (g : GoodOn lengths s c) where
   abbrev u : List ℕ
   u = take (c .long) (c .word)
 
@@ -39,8 +38,8 @@ module _ {s : DH.Strip} {c : DC.Cursor} (g : GoodOn s c) where
   carried F h = subst (λ w. F (c .k) (c .n) w) (same-word g) (subst₂ (λ k n. F k n (take (c .long) (take (c .n) (c .word)))) (g .letters) (g .marks) h)
 
   -- where it stands
-  pub same-place : {r : ℕ} → r ≡ placeIn (cursor (s .k) (s .n) (take (c .long) (take (c .n) (c .word))) (c .place)) → r ≡ placeIn (cursorIn c)
-  same-place {r} = carried (λ k n w. r ≡ placeIn (cursor k n w (c .place)))
+  pub same-place : {r : ℕ} → r ≡ positionIn (okOf lengths) (cursor (s .k) (s .n) (take (c .long) (take (c .n) (c .word))) (c .place)) → r ≡ positionIn (okOf lengths) (cursorIn c)
+  same-place {r} = carried (λ k n w. r ≡ positionIn (okOf lengths) (cursor k n w (c .place)))
 
   -- the letter that it stands on
   letter : getD (c .word) (c .place) 0 ≡ getD u (c .place) 0
@@ -51,12 +50,12 @@ module _ {s : DH.Strip} {c : DC.Cursor} (g : GoodOn s c) where
     stays : Is (cursor (c .k) (c .n) u p) (r .cursor)
     stays = subst (Is (cursor (c .k) (c .n) u p)) (sym (e .3)) (refl, tidy-in (moved c p) (fine g .sixty) (fine g .fits) (fine g .zeroed))
 
-    pub goes-inside : p ≡ c .place + 1 → p < c .long → Goes (stepOf (cursorIn c)) r
+    pub goes-inside : p ≡ c .place + 1 → p < c .long → Goes (stepIn (okOf lengths) (cursorIn c)) r
     goes-inside q h =
         let t : ltb (suc (c .place)) (length u) ≡ true = lt-ltb (suc (c .place)) (length u) (omega (arith, word-long g)) in
         rw t (e .0, e .1 ∙ letter, e .2, subst (λ i. Is (cursor (c .k) (c .n) u i) (r .cursor)) (q ∙ add-one (c .place)) stays)
 
-    pub backs-inside : p ≡ c .place - 1 → 0 < c .place → Goes (backOf (cursorIn c)) r
+    pub backs-inside : p ≡ c .place - 1 → 0 < c .place → Goes (backIn (okOf lengths) (cursorIn c)) r
     backs-inside q h = rw (lt-ltb 0 (c .place) h) (e .0, e .1 ∙ letter, e .2, subst (λ i. Is (cursor (c .k) (c .n) u i) (r .cursor)) q stays)
 
   -- to another word v: it stands in a buffer of n bytes, and after it are the bytes that were there
@@ -82,37 +81,37 @@ module _ {s : DH.Strip} {c : DC.Cursor} (g : GoodOn s c) where
         let d : DC.Cursor = record { k = c .k; n = c .n; word = w ++ drop (c .n) (c .word); long = m .long; place = p } in
         (ap (λ x. cursor (c .k) (c .n) x p) word, tidy-in d sixty (omega (arith, put .size, held-short g)) (ap allZero after-it ∙ zeroed))
 
-  -- a word of the strip has at most n letters, and some
-  leads-long : {d : Direction} → Laws d (divisorOf (s .n)) (s .k) (s .n) → let v = d .leads (take (c .long) (take (c .n) (c .word))) in (1 ≤ length v) × (length v ≤ c .n)
+  -- a word of the ring has at most n letters, and some
+  leads-long : {d : Direction} → Laws d (okOf lengths (s .n)) (s .k) (s .n) → let v = d .leads (take (c .long) (take (c .n) (c .word))) in (1 ≤ length v) × (length v ≤ c .n)
   leads-long {d} r =
       let v = d .leads (take (c .long) (take (c .n) (c .word))) in
       let (short, _, lyndon) = lyndon-up-words (s .k) (s .n) v .0 (r .listed (r .lead-in _ (held-in (held-on g)))) in
       (lyndon-some v lyndon, omega (arith, short, g .marks))
 
   -- behind its last letter, the next word
-  module _ {w : List ℕ} {m : DM.Moved} (put : MovedIs s (take (c .n) (c .word)) (c .long) w m) where
-    next-is : let v = nextWord (cursorIn c) in MovedTo (c .n) v (passedTo (c .k) (c .n) u v) w m
-    next-is = carried (λ k n x. let y = nextWord (cursor k n x 0) in MovedTo n y (passedTo k n x y) w m) put
+  module _ {w : List ℕ} {m : DM.Moved} (put : MovedIs lengths s (take (c .n) (c .word)) (c .long) w m) where
+    next-is : let v = nextOn (okOf lengths (c .n)) (cursorIn c) in MovedTo (c .n) v (passedTo (c .k) (c .n) u v) w m
+    next-is = carried (λ k n x. let y = nextOn (okOf lengths n) (cursor k n x 0) in MovedTo n y (passedTo k n x y) w m) put
 
     pub next-short : m .long ≤ c .n
-    next-short = let r = limits (g .shaped) in omega (arith, put .size, leads-long (strip-forth (s .k) (s .n) (r .two) (r .some)) .1)
+    next-short = omega (arith, put .size, leads-long (forth-on (held-on g)) .1)
 
     pub goes-onward : c .long ≤ c .place + 1
-        → Goes (stepOf (cursorIn c)) (record { number = 0; mark = getD (c .word) (c .place) 0; passed = m .passed; cursor = record { k = c .k; n = c .n; word = w ++ drop (c .n) (c .word); long = m .long; place = 0 } })
+        → Goes (stepIn (okOf lengths) (cursorIn c)) (record { number = 0; mark = getD (c .word) (c .place) 0; passed = m .passed; cursor = record { k = c .k; n = c .n; word = w ++ drop (c .n) (c .word); long = m .long; place = 0 } })
     goes-onward h =
         let t : ltb (suc (c .place)) (length u) ≡ false = le-ltb (suc (c .place)) (length u) (omega (arith, word-long g)) in
         rw t (refl, letter, next-is .passed, holds next-is (omega (arith, next-is .size, next-short)) 0)
 
   -- before its first letter, the word before
-  module _ {w : List ℕ} {m : DM.Moved} (put : BackIs s (take (c .n) (c .word)) (c .long) w m) where
-    previous-is : let v = previousWord (cursorIn c) in MovedTo (c .n) v (passedDown (c .k) (c .n) u v) w m
-    previous-is = carried (λ k n x. let y = previousWord (cursor k n x 0) in MovedTo n y (passedDown k n x y) w m) put
+  module _ {w : List ℕ} {m : DM.Moved} (put : BackIs lengths s (take (c .n) (c .word)) (c .long) w m) where
+    previous-is : let v = previousOn (okOf lengths (c .n)) (cursorIn c) in MovedTo (c .n) v (passedDown (c .k) (c .n) u v) w m
+    previous-is = carried (λ k n x. let y = previousOn (okOf lengths n) (cursor k n x 0) in MovedTo n y (passedDown k n x y) w m) put
 
     pub previous-long : (1 ≤ m .long) × (m .long ≤ c .n)
-    previous-long = let r = limits (g .shaped) in let (some, short) = leads-long (strip-back (s .k) (s .n) (r .two) (r .some)) in (omega (arith, put .size, some), omega (arith, put .size, short))
+    previous-long = let (some, short) = leads-long (back-on (held-on g)) in (omega (arith, put .size, some), omega (arith, put .size, short))
 
     pub backs-away : c .place ≤ 0
-        → Goes (backOf (cursorIn c)) (record { number = 0; mark = getD (c .word) (c .place) 0; passed = m .passed; cursor = record { k = c .k; n = c .n; word = w ++ drop (c .n) (c .word); long = m .long; place = m .long - 1 } })
+        → Goes (backIn (okOf lengths) (cursorIn c)) (record { number = 0; mark = getD (c .word) (c .place) 0; passed = m .passed; cursor = record { k = c .k; n = c .n; word = w ++ drop (c .n) (c .word); long = m .long; place = m .long - 1 } })
     backs-away h =
         let (is, tidied) = holds previous-is (omega (arith, previous-is .size, previous-long .1)) (m .long - 1) in
-        rw (le-ltb 0 (c .place) h) (refl, letter, previous-is .passed, (is ∙ ap (λ i. cursor (c .k) (c .n) (previousWord (cursorIn c)) (i - 1)) (previous-is .size), tidied))
+        rw (le-ltb 0 (c .place) h) (refl, letter, previous-is .passed, (is ∙ ap (λ i. cursor (c .k) (c .n) (previousOn (okOf lengths (c .n)) (cursorIn c)) (i - 1)) (previous-is .size), tidied))

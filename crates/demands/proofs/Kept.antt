@@ -8,9 +8,9 @@ use Rattle.demands.specs.Demands.{Demands}
 use Rattle.demands.proofs.Trays.{trays, no-value, no-value-beside, number-back}
 use Rattle.demands.proofs.Refused.{refusals}
 use Rattle.demands.proofs.Words.{lyndon, rotation, turn, root-told, count, ranked, sheet-ranked, unranked, word-back, rank-back}
-use Rattle.demands.proofs.Marks.{marked, placed, place-back, window-back, printed}
+use Rattle.demands.proofs.Marks.{marked, placed, place-back, window-back, short-placed, short-repeats, short-place-back, short-window-back, printed}
 use Rattle.demands.proofs.Pictures.{picture-back, picture-both, picture-by-rows}
-use Rattle.demands.proofs.Walking.{started, not-started, stands, step, not-stepped, undone, walk, both-ways}
+use Rattle.demands.proofs.Walking.{started, not-started, stands, step, not-stepped, undone, short-good, walk, both-ways}
 use Rattle.demands.proofs.Laying.{laid, laid-across, laid-only, smudged, smudged-only, smudged-lowest, smudged-bytes, smudged-plain}
 use Rattle.demands.proofs.Billing.{billed-told, bill-both, bill-same}
 use Rattle.demands.proofs.Misread.{misread-told, misread-answers, misread-both}
@@ -38,6 +38,10 @@ demands = record {
   placed = placed;
   place-back = place-back;
   window-back = window-back;
+  short-placed = short-placed;
+  short-repeats = short-repeats;
+  short-place-back = short-place-back;
+  short-window-back = short-window-back;
   printed = printed;
   pictures = pictures;
   picture-back = λ n p c h t t′ u u′ r q a l frame x y e f. picture-back n p c h a l frame t t′ u u′ r q x y e f;
@@ -49,6 +53,7 @@ demands = record {
   step = step;
   not-stepped = not-stepped;
   undone = undone;
+  short-good = short-good;
   walk = walk;
   both-ways = both-ways;
   same-listing = same-listing;

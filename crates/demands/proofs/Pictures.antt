@@ -15,6 +15,7 @@ use Rattle.calls.specs.declared.Value as DV
 use Rattle.calls.specs.Refusals.{pictureFault}
 use Rattle.calls.specs.Answers.{orShort}
 use Rattle.calls.proofs.Answers.{or-room}
+use Rattle.shape.specs.declared.Lengths.the-variants.{Divisors}
 use Rattle.marks.specs.Says.{PrintSays}
 use Rattle.pbm.specs.declared.Parts as DP
 use Rattle.pbm.specs.Pictures.{picture, fileSize, readPicture}
@@ -45,7 +46,7 @@ module _ (n p c h : ℕ) (a : admitted 2 n ≡ true) (l : p < 2 ^ n) (frame : Fr
       × (readPicture (take (r .value) t′) ≡ record { plain = true; width = c; height = h; marks = repeated h (take c u′) })
   picture-back t t′ u u′ r q x y e f =
       let (number, value, is) = beside-fine (pictureFault 2 n p c h) (length file) file t fine (omega (arith, size)) e in
-      let (done, marks, _) = printed 2 n p c u u′ q a l y f in
+      let (done, marks, _) = printed Divisors 2 n p c u u′ q a l y f in
       let whole : take (r .value) t′ ≡ file = ap₂ take value is ∙ take-at file _ (length file) refl in
       let read = ap readPicture whole ∙ back 2 n p c h (omega arith) (omega arith) (admitted-range 2 n a .1) in
       (number, value ∙ size, done, read ∙ ap (λ w. record { plain = true; width = c; height = h; marks = repeated h w }) (sym marks))

@@ -9,8 +9,11 @@ use native.Mathlib.Decide.{ℕ-discrete}
 use lib.Dec.{eqb, ltb, leb}
 use lib.ListN.{length}
 use borrow.Author.Tests.{ne-eqb}
-use Rattle.theory.specs.Words.{firstOf, when, keep, marksOk, howMany}
-use Rattle.theory.specs.Strips.{admitted, window, placeOf, cursorOk}
+use Rattle.theory.specs.Words.{firstOf, when, root, keep, marksOk, howMany}
+use Rattle.theory.specs.Rings.{goodIn}
+use Rattle.theory.specs.Strips.{admitted, window, placeOf}
+use Rattle.shape.specs.declared.Lengths.{Lengths}
+use Rattle.shape.specs.Rings.{okOf, sizeOf}
 use Rattle.theory.specs.Plans.{shades, marks, sections, planFault, wordFault, torn, straightFrom, laidAt, layingOf, lookupFault}
 use Rattle.theory.specs.Theorems.{Lies}
 use Rattle.theory.specs.Erasures.{unread, read, agrees, fitting, smudgedFault}
@@ -24,16 +27,16 @@ use Rattle.theory.proofs.Erasures.{fitting-in, in-fitting}
 use Rattle.theory.proofs.Prices.{short-sections}
 use Rattle.calls.specs.Order.{rule, given}
 use Rattle.calls.specs.Answers.{orShort}
-use Rattle.calls.specs.Refusals.{theWordFault, indexFault, placeFault, framed, pictureFault, billFault}
+use Rattle.calls.specs.Refusals.{theWordFault, shortWindowFault, indexFault, ringFault, framed, pictureFault, billFault}
 use Rattle.calls.proofs.Order.{given-none, given-first}
 use Rattle.pbm.specs.Pictures.{fileSize}
 use Rattle.lookups.specs.Says.{answerSize}
 use Rattle.misreadings.specs.Says.{listSize}
 use Rattle.cursors.specs.declared.Cursor as DC
-use Rattle.cursors.specs.Cursors.{cursorIn, tidy, cursorFault}
-use Rattle.demands.specs.Refused.{markRules, wordRules, placeRules, indexRules, cursorRules, planRules, layingRules, smudgedRules, pictureRules, billRules, trayRules, Refusals}
-use Rattle.demands.proofs.Trays.{answer-number, rotation-answers, turn-answers, rank-answers, word-answers, mark-answers, place-answers, print-answers, picture-answers, picture-of-answers, look-up-answers, smudged-answers, misreadings-answers, misreadings-of-answers, bill-answers}
-use Rattle.calls.proofs.Numbers.{strip-number, marks-number, word-number, place-number, cursor-number, plan-number, bill-number, word-tray-number, place-tray-number, index-tray-number, laying-tray-number, smudged-tray-number, picture-tray-number, bill-tray-number}
+use Rattle.cursors.specs.Cursors.{cursorIn, tidy, faultOn}
+use Rattle.demands.specs.Refused.{markRules, wordRules, shortWindowRules, placeRules, indexRules, cursorRules, planRules, layingRules, smudgedRules, pictureRules, billRules, trayRules, Refusals}
+use Rattle.demands.proofs.Trays.{answer-number, rotation-answers, turn-answers, rank-answers, word-answers, mark-answers, place-answers, short-place-answers, print-answers, picture-answers, picture-of-answers, look-up-answers, smudged-answers, misreadings-answers, misreadings-of-answers, bill-answers}
+use Rattle.calls.proofs.Numbers.{strip-number, marks-number, word-number, place-number, cursor-number, plan-number, bill-number, word-tray-number, short-window-tray-number, place-tray-number, index-tray-number, laying-tray-number, smudged-tray-number, picture-tray-number, bill-tray-number}
 
 -- the faults of each kind of argument, alone and with a tray of m bytes
 word-given : (k n : ℕ) (w : List ℕ) → theWordFault k n w ≡ given (wordRules k n w)
@@ -42,11 +45,14 @@ word-given k n w = word-number (not (admitted k n)) (not (eqb (length w) n)) (no
 word-tray : (k n : ℕ) (w t : List ℕ) (m : ℕ) → firstOf (theWordFault k n w) (when (ltb (length t) m) 6) ≡ given (wordRules k n w ++ trayRules t m)
 word-tray k n w t m = word-tray-number (not (admitted k n)) (not (eqb (length w) n)) (not (marksOk k w)) (ltb (length t) m)
 
-place-given : (k n p : ℕ) → placeFault k n p ≡ given (placeRules k n p)
-place-given k n p = place-number (not (admitted k n)) (leb (k ^ n) p)
+window-tray : (k n : ℕ) (w t : List ℕ) (m : ℕ) → firstOf (shortWindowFault k n w) (when (ltb (length t) m) 6) ≡ given (shortWindowRules k n w ++ trayRules t m)
+window-tray k n w t m = short-window-tray-number (not (admitted k n)) (not (eqb (length w) n)) (not (marksOk k w)) (ltb (root w) n) (ltb (length t) m)
 
-place-tray : (k n p : ℕ) (t : List ℕ) (m : ℕ) → firstOf (placeFault k n p) (when (ltb (length t) m) 6) ≡ given (placeRules k n p ++ trayRules t m)
-place-tray k n p t m = place-tray-number (not (admitted k n)) (leb (k ^ n) p) (ltb (length t) m)
+place-given : (lengths : Lengths) (k n p : ℕ) → ringFault lengths k n p ≡ given (placeRules lengths k n p)
+place-given lengths k n p = place-number (not (admitted k n)) (leb (sizeOf lengths k n) p)
+
+place-tray : (lengths : Lengths) (k n p : ℕ) (t : List ℕ) (m : ℕ) → firstOf (ringFault lengths k n p) (when (ltb (length t) m) 6) ≡ given (placeRules lengths k n p ++ trayRules t m)
+place-tray lengths k n p t m = place-tray-number (not (admitted k n)) (leb (sizeOf lengths k n) p) (ltb (length t) m)
 
 index-tray : (k n i : ℕ) (t : List ℕ) (m : ℕ) → firstOf (indexFault k n i) (when (ltb (length t) m) 6) ≡ given (indexRules k n i ++ trayRules t m)
 index-tray k n i t m = index-tray-number (not (admitted k n)) (eqb i 0 || ltb (howMany k n) i) (ltb (length t) m)
@@ -58,8 +64,8 @@ picture-tray k n p c h = picture-tray-number (not (admitted k n)) (not (eqb k 2)
 two-trays : (f : ℕ) (s t : List ℕ) (m : ℕ) → firstOf (orShort f s) (when (ltb (length t) m) 6) ≡ firstOf f (when (ltb (length s) 8 || ltb (length t) m) 6)
 two-trays f s t m = first-assoc f (when (ltb (length s) 8) 6) (when (ltb (length t) m) 6) ∙ ap (firstOf f) (first-either (ltb (length s) 8) (ltb (length t) m) 5)
 
-cursor-given : (c : DC.Cursor) → cursorFault c ≡ given (cursorRules c)
-cursor-given c = cursor-number (not (admitted (c .k) (c .n))) (not (tidy c && cursorOk (cursorIn c)))
+cursor-given : (lengths : Lengths) (c : DC.Cursor) → faultOn lengths c ≡ given (cursorRules lengths c)
+cursor-given lengths c = cursor-number (not (admitted (c .k) (c .n))) (not (tidy c && goodIn (okOf lengths) (cursorIn c)))
 
 plan-given : (s : List ℕ) → planFault s ≡ given (planRules s)
 plan-given s = plan-number (torn s) (not (admitted (shades s) (marks s))) (not (straightFrom (marks s) (shades s ^ marks s) 0 (sections s)))
@@ -135,9 +141,10 @@ refusals = record {
   lyndon-count = λ k n r e. e .0 ∙ strip-number (not (admitted k n));
   rank-of = λ k n w t t′ r e. answer-number (rank-answers k n w t t′ r e) ∙ word-tray k n w t 8;
   word-of = λ k n i t t′ r e. answer-number (word-answers k n i t t′ r e) ∙ index-tray k n i t n;
-  mark-at = λ k n p t t′ r e. answer-number (mark-answers k n p t t′ r e) ∙ place-tray k n p t 8;
+  mark-at = λ lengths k n p t t′ r e. answer-number (mark-answers lengths k n p t t′ r e) ∙ place-tray lengths k n p t 8;
   place-of = λ k n w t t′ r e. answer-number (place-answers k n w t t′ r e) ∙ word-tray k n w t 8;
-  print-marks = λ k n p c t t′ r e. answer-number (print-answers k n p c t t′ r e) ∙ place-tray k n p t c;
+  short-place-of = λ k n w t t′ r e. answer-number (short-place-answers k n w t t′ r e) ∙ window-tray k n w t 8;
+  print-marks = λ lengths k n p c t t′ r e. answer-number (print-answers lengths k n p c t t′ r e) ∙ place-tray lengths k n p t c;
   print-picture = λ k n p c h t t′ r e. answer-number (picture-answers k n p c h t t′ r e) ∙ picture-tray k n p c h (ltb (length t) (fileSize c h));
   picture-of = λ k n p c h s s′ t t′ r e. answer-number (picture-of-answers k n p c h s s′ t t′ r e) ∙ two-trays (pictureFault k n p c h) s t (fileSize c h) ∙ picture-tray k n p c h (ltb (length s) 8 || ltb (length t) (fileSize c h));
   check-plan = λ s r e. e ∙ plan-given s;
@@ -147,10 +154,10 @@ refusals = record {
   misreadings-of = λ s w c c′ t t′ r e. answer-number (misreadings-of-answers s w c c′ t t′ r e) ∙ two-trays (lookupFault s w) c t (listSize s w) ∙ laying-tray s w (ltb (length c) 8 || ltb (length t) (listSize s w));
   bill = λ s p c r e. e .0 ∙ bill-given s p c;
   bill-of = λ s p c t t′ r e. answer-number (bill-answers s p c t t′ r e) ∙ bill-tray s p c t;
-  start-cursor = λ k n p r e. e .0 ∙ place-given k n p;
-  cursor-place = λ c r e. e .0 ∙ cursor-given c;
-  step = λ c r e. e .0 ∙ cursor-given c;
-  step-back = λ c r e. e .0 ∙ cursor-given c;
+  start-cursor = λ lengths k n p r e. e .0 ∙ place-given lengths k n p;
+  cursor-place = λ lengths c r e. e .0 ∙ cursor-given lengths c;
+  step = λ lengths c r e. e .0 ∙ cursor-given lengths c;
+  step-back = λ lengths c r e. e .0 ∙ cursor-given lengths c;
   not-laid = not-laid;
   none-agrees = none-agrees;
   no-long-roll = short-sections;

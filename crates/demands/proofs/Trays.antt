@@ -11,7 +11,11 @@ use lib.ListN.{length, drop}
 use lib.Seq.{drop-append-seam}
 use borrow.Author.Tests.{le-ltb, ltb-false, ne-eqb}
 use Rattle.theory.specs.Words.{pick, firstOf, when, smallest, leastTurn, wordOf, rank}
-use Rattle.theory.specs.Strips.{admitted, stripFault, markAt, marksFrom, placeOf, strip}
+use Rattle.theory.specs.Rings.{ring}
+use Rattle.theory.specs.Strips.{admitted, stripFault, placeOf}
+use Rattle.theory.specs.Shorts.{shortPlaceOf}
+use Rattle.shape.specs.declared.Lengths.{Lengths}
+use Rattle.shape.specs.Rings.{okOf, sizeOf, letterOf, lettersOf}
 use Rattle.theory.specs.Plans.{be, shades, marks, sections, lookupFault}
 use Rattle.theory.specs.Erasures.{lowest, smudgedFault}
 use Rattle.theory.specs.Substitutions.{misread}
@@ -27,12 +31,12 @@ use Rattle.buffers.proofs.Bytes.{over-length}
 use Rattle.numbers.proofs.Numbers.{put-read}
 use Rattle.calls.specs.declared.Value as DV
 use Rattle.calls.specs.Answers.{Into, IntoValue, orShort, IntoBoth, Number, ValueIs}
-use Rattle.calls.specs.Refusals.{theWordFault, indexFault, placeFault, pictureFault, billFault}
+use Rattle.calls.specs.Refusals.{theWordFault, shortWindowFault, indexFault, ringFault, pictureFault, billFault}
 use Rattle.calls.proofs.Answers.{number-answer}
 use Rattle.ranking.proofs.Indexes.{index-range, index-long}
 use Rattle.words.specs.Says.{RotationSays, TurnSays}
 use Rattle.ranking.specs.Says.{RankSays, WordSays}
-use Rattle.marks.specs.Says.{MarkSays, PlaceSays, PrintSays}
+use Rattle.marks.specs.Says.{MarkOn, PlaceSays, ShortPlaceSays, PrintOn}
 use Rattle.pbm.specs.Pictures.{picture, fileSize}
 use Rattle.pictures.specs.Says.{PictureSays, BothSay}
 use Rattle.pictures.proofs.Framing.{file-long}
@@ -149,16 +153,19 @@ rank-answers k n w t t′ r e = answers (putBe 8 (rank k w)) (λ _. refl) e
 pub word-answers : (k n i : ℕ) (t t′ : List ℕ) (r : ℕ) → WordSays k n i t t′ r → Answers n (indexFault k n i) t t′ r
 word-answers k n i t t′ r e = answers (wordOf k n i) (index-word-long k n i) e
 
-pub mark-answers : (k n p : ℕ) (t t′ : List ℕ) (r : ℕ) → MarkSays k n p t t′ r → Answers 8 (placeFault k n p) t t′ r
-mark-answers k n p t t′ r e = answers (putBe 8 (markAt k n p)) (λ _. refl) e
+pub mark-answers : (lengths : Lengths) (k n p : ℕ) (t t′ : List ℕ) (r : ℕ) → MarkOn lengths k n p t t′ r → Answers 8 (ringFault lengths k n p) t t′ r
+mark-answers lengths k n p t t′ r e = answers (putBe 8 (letterOf lengths k n p)) (λ _. refl) e
 
 pub place-answers : (k n : ℕ) (w t t′ : List ℕ) (r : ℕ) → PlaceSays k n w t t′ r → Answers 8 (theWordFault k n w) t t′ r
 place-answers k n w t t′ r e = answers (putBe 8 (placeOf k n w)) (λ _. refl) e
 
-pub print-answers : (k n p c : ℕ) (t t′ : List ℕ) (r : ℕ) → PrintSays k n p c t t′ r → Answers c (placeFault k n p) t t′ r
-print-answers k n p c t t′ r e =
-    let long = letters-length (k ^ n) (strip k n) p c in
-    answers (marksFrom k n p c) (λ _. long) (print-into (placeFault k n p) c (marksFrom k n p c) t t′ r long e)
+pub short-place-answers : (k n : ℕ) (w t t′ : List ℕ) (r : ℕ) → ShortPlaceSays k n w t t′ r → Answers 8 (shortWindowFault k n w) t t′ r
+short-place-answers k n w t t′ r e = answers (putBe 8 (shortPlaceOf k n w)) (λ _. refl) e
+
+pub print-answers : (lengths : Lengths) (k n p c : ℕ) (t t′ : List ℕ) (r : ℕ) → PrintOn lengths k n p c t t′ r → Answers c (ringFault lengths k n p) t t′ r
+print-answers lengths k n p c t t′ r e =
+    let long = letters-length (sizeOf lengths k n) (ring (okOf lengths n) k n) p c in
+    answers (lettersOf lengths k n p c) (λ _. long) (print-into (ringFault lengths k n p) c (lettersOf lengths k n p c) t t′ r long e)
 
 -- a picture's file
 pub picture-answers : (k n p c h : ℕ) (t t′ : List ℕ) (r : DV.Value) → PictureSays k n p c h t t′ r → Answers (fileSize c h) (pictureFault k n p c h) t t′ (r .number)
@@ -200,9 +207,10 @@ trays = record {
   turn-of = λ k n w t t′ r e. keeps (turn-answers k n w t t′ r e);
   rank-of = λ k n w t t′ r e. keeps (rank-answers k n w t t′ r e);
   word-of = λ k n i t t′ r e. keeps (word-answers k n i t t′ r e);
-  mark-at = λ k n p t t′ r e. keeps (mark-answers k n p t t′ r e);
+  mark-at = λ lengths k n p t t′ r e. keeps (mark-answers lengths k n p t t′ r e);
   place-of = λ k n w t t′ r e. keeps (place-answers k n w t t′ r e);
-  print-marks = λ k n p c t t′ r e. keeps (print-answers k n p c t t′ r e);
+  short-place-of = λ k n w t t′ r e. keeps (short-place-answers k n w t t′ r e);
+  print-marks = λ lengths k n p c t t′ r e. keeps (print-answers lengths k n p c t t′ r e);
   print-picture = λ k n p c h t t′ r e. keeps (picture-answers k n p c h t t′ r e);
   picture-of = λ k n p c h s s′ t t′ r e. (value-keeps (pictureFault k n p c h) (length (picture k n p c h)) (picture k n p c h) s s′ t t′ r e, keeps (picture-of-answers k n p c h s s′ t t′ r e));
   look-up = λ s w t t′ r e. keeps (look-up-answers s w t t′ r e);

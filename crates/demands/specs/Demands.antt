@@ -7,11 +7,14 @@ use mathlib.Core.Logic.{_↔_, _≢_}
 use Prim.Native.Nat.{ℕ, suc, _+_, _*_, _^_, _≤_, _<_}
 use lib.IntN.{pos}
 use lib.ListN.{length, getD, take, drop, replicate}
-use Rattle.theory.specs.Words.{below, upTo, turned, repeated, powerTo, keep, marksOk, isLyndon, howMany, rank, wordOf}
+use Rattle.theory.specs.Words.{below, upTo, turned, root as rootOf, repeated, powerTo, keep, marksOk, isLyndon, howMany, rank, wordOf}
 use Rattle.theory.specs.Sums.{rankTerm}
 use Rattle.theory.specs.Floors.{necklaceUpTo}
-use Rattle.theory.specs.Rings.{modulo, pathEnd, pathLetters}
-use Rattle.theory.specs.Strips.{admitted, strip, markAt, marksFrom, window, placeIn}
+use Rattle.theory.specs.Rings.{ring, modulo, positionIn, pathEnd, pathLetters}
+use Rattle.theory.specs.Strips.{admitted, window}
+use Rattle.theory.specs.Shorts.{shortSize, shortWindow}
+use Rattle.shape.specs.declared.Lengths.{Lengths}
+use Rattle.shape.specs.Rings.{okOf, sizeOf, letterOf, lettersOf}
 use Rattle.theory.specs.Plans.{be, shades, marks, sectionCount, sections, welded, nthS, planFault, railOf, layingAt, laidAt}
 use Rattle.theory.specs.Erasures.{unread, agrees}
 use Rattle.theory.specs.Substitutions.{Change, change, changed, keyOf}
@@ -23,7 +26,7 @@ use Rattle.calls.specs.declared.Value as DV
 use Rattle.calls.specs.Answers.{IntoValue, ValueIs}
 use Rattle.words.specs.Says.{LyndonSays, RotationSays, TurnSays, RootSays}
 use Rattle.ranking.specs.Says.{ManySays, RankSays, WordSays}
-use Rattle.marks.specs.Says.{MarkSays, PlaceSays, PrintSays}
+use Rattle.marks.specs.Says.{MarkOn, PlaceSays, PrintOn, PrintSays, ShortPlaceSays, ShortPrintSays}
 use Rattle.pbm.specs.declared.Parts as DP
 use Rattle.pbm.specs.Pictures.{picture, fileSize, readPicture, Pictures}
 use Rattle.pbm.specs.Parts.{Frame, partsRoom}
@@ -37,7 +40,7 @@ use Rattle.sheets.specs.Worksheets.{sheetLine, worksheet, Sheets}
 use Rattle.cursors.specs.declared.Cursor as DC
 use Rattle.cursors.specs.declared.Started as DS
 use Rattle.cursors.specs.declared.Stepped as DT
-use Rattle.cursors.specs.Cursors.{cursorIn, empty, cursorFault, StartSays, WhereSays}
+use Rattle.cursors.specs.Cursors.{cursorIn, empty, faultOn, cursorFault, shortFault, StartOn, WhereOn}
 use Rattle.demands.specs.Refused.{All-short, Refusals}
 use Rattle.demands.specs.Trays.{Trays}
 use Rattle.demands.specs.Walked.{Says, Steps-on, Walked, Followed, fields, passedFrom, pathPassed}
@@ -118,10 +121,10 @@ pub record Demands : Type 0 where
   pub sheets : Sheets
   pub sheet-ranked : (k n : ℕ) (w t t′ : List ℕ) (r : ℕ) → admitted k n ≡ true → length w ≡ n → marksOk k w ≡ true → 8 ≤ length t → RankSays k n w t t′ r
       → (x : List ℕ) × (worksheet (k ∷ n ∷ w) ≡ x ++ sheetLine 1 (rankTerm k (necklaceUpTo k w) 1) (pos (n * be 0 8 t′)))
-  -- Marks and places: mark_at writes the strip's mark at a place
-  pub marked : (k n p : ℕ) (t t′ : List ℕ) (r : ℕ) → admitted k n ≡ true → p < k ^ n → 8 ≤ length t → MarkSays k n p t t′ r
-      → (r ≡ 0) × (be 0 8 t′ ≡ markAt k n p) × (be 0 8 t′ < k)
-  -- every window is read at exactly one place, and place_of writes that one
+  -- Marks and places, on the strip and on the short ring: mark_at and short_mark_at write the ring's mark at a place
+  pub marked : (lengths : Lengths) (k n p : ℕ) (t t′ : List ℕ) (r : ℕ) → admitted k n ≡ true → p < sizeOf lengths k n → 8 ≤ length t
+      → MarkOn lengths k n p t t′ r → (r ≡ 0) × (be 0 8 t′ ≡ letterOf lengths k n p) × (be 0 8 t′ < k)
+  -- every window is read at exactly one place of the strip, and place_of writes that one
   pub placed : (k n : ℕ) (w t t′ : List ℕ) (r : ℕ) → admitted k n ≡ true → length w ≡ n → marksOk k w ≡ true → 8 ≤ length t → PlaceSays k n w t t′ r
       → (r ≡ 0) × (be 0 8 t′ < k ^ n) × (window k n (be 0 8 t′) ≡ w) × ((p : ℕ) → p < k ^ n → window k n p ≡ w → p ≡ be 0 8 t′)
   -- place_of on the window at a place writes that place, and no byte after it
@@ -130,9 +133,22 @@ pub record Demands : Type 0 where
   -- place_of, then print_marks of n marks there, gives the window back
   pub window-back : (k n : ℕ) (w t t′ u u′ : List ℕ) (r q : ℕ) → admitted k n ≡ true → length w ≡ n → marksOk k w ≡ true
       → 8 ≤ length t → n ≤ length u → PlaceSays k n w t t′ r → PrintSays k n (be 0 8 t′) n u u′ q → (r ≡ 0) × (q ≡ 0) × (u′ ≡ over w u)
-  -- print_marks of any number of marks: each is the strip's, round the end as often as need be
-  pub printed : (k n p c : ℕ) (t t′ : List ℕ) (r : ℕ) → admitted k n ≡ true → p < k ^ n → c ≤ length t → PrintSays k n p c t t′ r
-      → (r ≡ 0) × (take c t′ ≡ marksFrom k n p c) × ((j : ℕ) → j < c → getD t′ j 0 ≡ markAt k n (p + j))
+  -- every window that is no shorter word repeated is read at exactly one place of the short ring, and short_place_of writes that one
+  pub short-placed : (k n : ℕ) (w t t′ : List ℕ) (r : ℕ) → admitted k n ≡ true → length w ≡ n → marksOk k w ≡ true → rootOf w ≡ n → 8 ≤ length t
+      → ShortPlaceSays k n w t t′ r
+      → (r ≡ 0) × (be 0 8 t′ < shortSize k n) × (shortWindow k n (be 0 8 t′) ≡ w) × ((p : ℕ) → p < shortSize k n → shortWindow k n p ≡ w → p ≡ be 0 8 t′)
+  -- a window that is one is refused with 16; it is read nowhere there
+  pub short-repeats : (k n : ℕ) (w t t′ : List ℕ) (r : ℕ) → admitted k n ≡ true → length w ≡ n → marksOk k w ≡ true → rootOf w < n
+      → ShortPlaceSays k n w t t′ r → (r ≡ 16) × (t′ ≡ t) × ((p : ℕ) → p < shortSize k n → shortWindow k n p ≢ w)
+  -- there and back, as on the strip
+  pub short-place-back : (k n p : ℕ) (t t′ : List ℕ) (r : ℕ) → admitted k n ≡ true → p < shortSize k n → 8 ≤ length t
+      → ShortPlaceSays k n (shortWindow k n p) t t′ r → (r ≡ 0) × (be 0 8 t′ ≡ p) × (drop 8 t′ ≡ drop 8 t)
+  pub short-window-back : (k n : ℕ) (w t t′ u u′ : List ℕ) (r q : ℕ) → admitted k n ≡ true → length w ≡ n → marksOk k w ≡ true → rootOf w ≡ n
+      → 8 ≤ length t → n ≤ length u → ShortPlaceSays k n w t t′ r → ShortPrintSays k n (be 0 8 t′) n u u′ q → (r ≡ 0) × (q ≡ 0) × (u′ ≡ over w u)
+  -- print_marks and short_print_marks of any number of marks: each is the ring's, round the end as often as need be
+  pub printed : (lengths : Lengths) (k n p c : ℕ) (t t′ : List ℕ) (r : ℕ) → admitted k n ≡ true → p < sizeOf lengths k n → c ≤ length t
+      → PrintOn lengths k n p c t t′ r
+      → (r ≡ 0) × (take c t′ ≡ lettersOf lengths k n p c) × ((j : ℕ) → j < c → getD t′ j 0 ≡ letterOf lengths k n (p + j))
   -- Pictures: the file's lines, its size, and that what is read of it is what was drawn
   pub pictures : Pictures
   -- print_picture writes the file and answers its size; its digits, read back, are the marks that print_marks writes, in every row
@@ -147,30 +163,34 @@ pub record Demands : Type 0 where
   -- stripprint: the head and as many rows, as its parts are told, are the file that the request asks for; nothing, if it asks for none
   pub picture-by-rows : (s b t : List ℕ) (r : DP.Parts) → partsRoom ≤ length b → PartsSay s b t r
       → take (r .head) t ++ repeated (r .rows) (drop (r .head) (take (r .end) t)) ≡ pictureFor s
-  -- Cursors: a start gives a cursor without fault on the place; refused, one that is zero in every field
-  pub started : (k n p : ℕ) (r : DS.Started) → admitted k n ≡ true → p < k ^ n → StartSays k n p r
-      → (r .number ≡ 0) × (r .cursor .k ≡ k) × (r .cursor .n ≡ n) × (cursorFault (r .cursor) ≡ 0) × (placeIn (cursorIn (r .cursor)) ≡ p)
-  pub not-started : (k n p : ℕ) (r : DS.Started) → StartSays k n p r → r .number ≢ 0 → empty (r .cursor) ≡ true
-  -- any cursor without fault tells its place, which is on the strip
-  pub stands : (c : DC.Cursor) (v : DV.Value) → cursorFault c ≡ 0 → WhereSays c v
-      → (v .number ≡ 0) × (v .value ≡ placeIn (cursorIn c)) × (v .value < c .k ^ c .n)
+  -- Cursors, on either ring: a start gives a cursor without fault on the place; refused, one that is zero in every field
+  pub started : (lengths : Lengths) (k n p : ℕ) (r : DS.Started) → admitted k n ≡ true → p < sizeOf lengths k n → StartOn lengths k n p r
+      → (r .number ≡ 0) × (r .cursor .k ≡ k) × (r .cursor .n ≡ n) × (faultOn lengths (r .cursor) ≡ 0) × (positionIn (okOf lengths) (cursorIn (r .cursor)) ≡ p)
+  pub not-started : (lengths : Lengths) (k n p : ℕ) (r : DS.Started) → StartOn lengths k n p r → r .number ≢ 0 → empty (r .cursor) ≡ true
+  -- any cursor without fault tells its place, which is on the ring
+  pub stands : (lengths : Lengths) (c : DC.Cursor) (v : DV.Value) → faultOn lengths c ≡ 0 → WhereOn lengths c v
+      → (v .number ≡ 0) × (v .value ≡ positionIn (okOf lengths) (cursorIn c)) × (v .value < sizeOf lengths (c .k) (c .n))
   -- a step, on or back, of any cursor without fault; refused, it gives the cursor back
-  pub step : (way : Bool) (c : DC.Cursor) (q : DT.Stepped) → cursorFault c ≡ 0 → Says way c q → Steps-on way c q
-  pub not-stepped : (way : Bool) (c : DC.Cursor) (q : DT.Stepped) → Says way c q → q .number ≢ 0 → (q .mark ≡ 0) × (q .passed ≡ 0) × (q .cursor ≡ c)
+  pub step : (lengths : Lengths) (way : Bool) (c : DC.Cursor) (q : DT.Stepped) → faultOn lengths c ≡ 0 → Says lengths way c q → Steps-on lengths way c q
+  pub not-stepped : (lengths : Lengths) (way : Bool) (c : DC.Cursor) (q : DT.Stepped) → Says lengths way c q → q .number ≢ 0
+      → (q .mark ≡ 0) × (q .passed ≡ 0) × (q .cursor ≡ c)
   -- a step and the step back, in either order, give every byte of the cursor as it was, lost or not, and pass as many words
-  pub undone : (way : Bool) (c : DC.Cursor) (q b : DT.Stepped) → Says way c q → Says (not way) (q .cursor) b
+  pub undone : (lengths : Lengths) (way : Bool) (c : DC.Cursor) (q b : DT.Stepped) → Says lengths way c q → Says lengths (not way) (q .cursor) b
       → (b .number ≡ q .number) × (b .passed ≡ q .passed) × (b .cursor ≡ c)
-  -- start_cursor at a place, any number of steps, cursor_place: no step is refused, the marks read are the strip's from that place on, the words passed
-  -- are those from word to word, and the place is as many further on
-  pub walk : (k n p : ℕ) (r : DS.Started) (qs : List DT.Stepped) (d : DC.Cursor) (v : DV.Value) → admitted k n ≡ true → p < k ^ n
-      → StartSays k n p r → Walked (r .cursor) qs d → WhereSays d v
-      → (r .number ≡ 0) × (fields (λ q. q .number) qs ≡ replicate (length qs) 0) × (fields (λ q. q .mark) qs ≡ marksFrom k n p (length qs))
-      × (fields (λ q. q .passed) qs ≡ passedFrom k n p (length qs)) × (v .number ≡ 0) × (v .value ≡ modulo (p + length qs) (k ^ n))
+  -- a cursor is without fault on the short ring just if it is so on the strip and holds a word of length n
+  pub short-good : (c : DC.Cursor) → (shortFault c ≡ 0) ↔ ((cursorFault c ≡ 0) × (c .long ≡ c .n))
+  -- a start at a place, any number of steps, then the cursor's place: no step is refused, the marks read are the ring's from that place on, the words
+  -- passed are those from word to word, and the place is as many further on
+  pub walk : (lengths : Lengths) (k n p : ℕ) (r : DS.Started) (qs : List DT.Stepped) (d : DC.Cursor) (v : DV.Value) → admitted k n ≡ true → p < sizeOf lengths k n
+      → StartOn lengths k n p r → Walked lengths (r .cursor) qs d → WhereOn lengths d v
+      → (r .number ≡ 0) × (fields (λ q. q .number) qs ≡ replicate (length qs) 0) × (fields (λ q. q .mark) qs ≡ lettersOf lengths k n p (length qs))
+      × (fields (λ q. q .passed) qs ≡ passedFrom lengths k n p (length qs)) × (v .number ≡ 0) × (v .value ≡ modulo (p + length qs) (sizeOf lengths k n))
   -- the same with steps on and back in any order: the marks read and the words passed are those of the path, and the place is where the path ends
-  pub both-ways : (k n p : ℕ) (r : DS.Started) (ways : List Bool) (qs : List DT.Stepped) (d : DC.Cursor) (v : DV.Value) → admitted k n ≡ true → p < k ^ n
-      → StartSays k n p r → Followed Says (r .cursor) ways qs d → WhereSays d v
-      → (r .number ≡ 0) × (fields (λ q. q .number) qs ≡ replicate (length qs) 0) × (fields (λ q. q .mark) qs ≡ pathLetters (k ^ n) (strip k n) ways p)
-      × (fields (λ q. q .passed) qs ≡ pathPassed k n ways p) × (v .number ≡ 0) × (v .value ≡ pathEnd (k ^ n) ways p)
+  pub both-ways : (lengths : Lengths) (k n p : ℕ) (r : DS.Started) (ways : List Bool) (qs : List DT.Stepped) (d : DC.Cursor) (v : DV.Value)
+      → admitted k n ≡ true → p < sizeOf lengths k n → StartOn lengths k n p r → Followed (Says lengths) (r .cursor) ways qs d → WhereOn lengths d v
+      → (r .number ≡ 0) × (fields (λ q. q .number) qs ≡ replicate (length qs) 0)
+      × (fields (λ q. q .mark) qs ≡ pathLetters (sizeOf lengths k n) (ring (okOf lengths n) k n) ways p)
+      × (fields (λ q. q .passed) qs ≡ pathPassed lengths k n ways p) × (v .number ≡ 0) × (v .value ≡ pathEnd (sizeOf lengths k n) ways p)
   -- Plans: what stripwalk prints does not depend on the record, nor on rails
   pub same-listing : Same-listing
   -- look_up tells section, distance and rail of each window that is read wholly inside a section of an accepted plan

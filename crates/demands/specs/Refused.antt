@@ -7,18 +7,21 @@ use mathlib.Core.Logic.{_↔_, _≢_}
 use Prim.Native.Nat.{ℕ, _+_, _^_, _≤_, _<_}
 use lib.Dec.{eqb, ltb, leb}
 use lib.ListN.{length}
-use Rattle.theory.specs.Words.{howMany, keep, marksOk}
+use Rattle.theory.specs.Words.{root, howMany, keep, marksOk}
 use Rattle.theory.specs.Lists.{In}
-use Rattle.theory.specs.Strips.{admitted, window, cursorOk}
+use Rattle.theory.specs.Strips.{admitted, window}
+use Rattle.theory.specs.Rings.{goodIn}
 use Rattle.theory.specs.Plans.{shades, marks, sectionCount, sections, nthS, torn, straightFrom, laidAt, layingOf}
 use Rattle.theory.specs.Theorems.{Lies}
 use Rattle.theory.specs.Erasures.{unread, read, agrees, fitting}
 use Rattle.theory.specs.Prices.{shortRolls}
+use Rattle.shape.specs.declared.Lengths.{Lengths}
+use Rattle.shape.specs.Rings.{okOf, sizeOf}
 use Rattle.calls.specs.declared.Value as DV
 use Rattle.calls.specs.Order.{order, Rule, rule, appliesIn, given}
 use Rattle.words.specs.Says.{LyndonSays, RotationSays, TurnSays, RootSays}
 use Rattle.ranking.specs.Says.{ManySays, RankSays, WordSays}
-use Rattle.marks.specs.Says.{MarkSays, PlaceSays, PrintSays}
+use Rattle.marks.specs.Says.{MarkOn, PlaceSays, ShortPlaceSays, PrintOn}
 use Rattle.pbm.specs.Pictures.{fileSize}
 use Rattle.pictures.specs.Says.{PictureSays, BothSay}
 use Rattle.lookups.specs.Says.{answerSize, PlanSays, LookupSays, SmudgedSays}
@@ -27,9 +30,9 @@ use Rattle.bills.specs.Says.{BillSays, BillOfSays}
 use Rattle.cursors.specs.declared.Cursor as DC
 use Rattle.cursors.specs.declared.Started as DS
 use Rattle.cursors.specs.declared.Stepped as DT
-use Rattle.cursors.specs.Cursors.{cursorIn, tidy, StartSays, WhereSays, StepSays, BackSays}
+use Rattle.cursors.specs.Cursors.{cursorIn, tidy, StartOn, WhereOn, StepOn, BackOn}
 
--- no such strip; wrong window, bad mark; off the strip; no such word; lost cursor
+-- no such strip; wrong window, bad mark; off the strip, or off the short ring; no such word; lost cursor, on either ring
 abbrev pub stripRules : ℕ → ℕ → List Rule
 stripRules k n = rule 1 (not (admitted k n)) ∷ []
 
@@ -39,14 +42,18 @@ markRules k n w = rule 2 (not (eqb (length w) n)) ∷ rule 3 (not (marksOk k w))
 abbrev pub wordRules : ℕ → ℕ → List ℕ → List Rule
 wordRules k n w = stripRules k n ++ markRules k n w
 
-abbrev pub placeRules : ℕ → ℕ → ℕ → List Rule
-placeRules k n p = stripRules k n ++ (rule 4 (leb (k ^ n) p) ∷ [])
+abbrev pub placeRules : Lengths → ℕ → ℕ → ℕ → List Rule
+placeRules lengths k n p = stripRules k n ++ (rule 4 (leb (sizeOf lengths k n) p) ∷ [])
 
 abbrev pub indexRules : ℕ → ℕ → ℕ → List Rule
 indexRules k n i = stripRules k n ++ (rule 5 (eqb i 0 || ltb (howMany k n) i) ∷ [])
 
-abbrev pub cursorRules : DC.Cursor → List Rule
-cursorRules c = stripRules (c .k) (c .n) ++ (rule 10 (not (tidy c && cursorOk (cursorIn c))) ∷ [])
+abbrev pub cursorRules : Lengths → DC.Cursor → List Rule
+cursorRules lengths c = stripRules (c .k) (c .n) ++ (rule 10 (not (tidy c && goodIn (okOf lengths) (cursorIn c))) ∷ [])
+
+-- a window on the short ring: repeating window
+abbrev pub shortWindowRules : ℕ → ℕ → List ℕ → List Rule
+shortWindowRules k n w = wordRules k n w ++ (rule 16 (ltb (root w) n) ∷ [])
 
 -- torn plan, no such strip, crooked plan; and for a window in it, not laid
 abbrev pub planRules : List ℕ → List Rule
@@ -94,9 +101,12 @@ pub record Refusals : Type 0 where
   pub lyndon-count : (k n : ℕ) (r : DV.Value) → ManySays k n r → r .number ≡ given (stripRules k n)
   pub rank-of : (k n : ℕ) (w t t′ : List ℕ) (r : ℕ) → RankSays k n w t t′ r → r ≡ given (wordRules k n w ++ trayRules t 8)
   pub word-of : (k n i : ℕ) (t t′ : List ℕ) (r : ℕ) → WordSays k n i t t′ r → r ≡ given (indexRules k n i ++ trayRules t n)
-  pub mark-at : (k n p : ℕ) (t t′ : List ℕ) (r : ℕ) → MarkSays k n p t t′ r → r ≡ given (placeRules k n p ++ trayRules t 8)
+  -- on either ring, as MarkSays and ShortMarkSays are: mark_at and short_mark_at
+  pub mark-at : (lengths : Lengths) (k n p : ℕ) (t t′ : List ℕ) (r : ℕ) → MarkOn lengths k n p t t′ r → r ≡ given (placeRules lengths k n p ++ trayRules t 8)
   pub place-of : (k n : ℕ) (w t t′ : List ℕ) (r : ℕ) → PlaceSays k n w t t′ r → r ≡ given (wordRules k n w ++ trayRules t 8)
-  pub print-marks : (k n p c : ℕ) (t t′ : List ℕ) (r : ℕ) → PrintSays k n p c t t′ r → r ≡ given (placeRules k n p ++ trayRules t c)
+  pub short-place-of : (k n : ℕ) (w t t′ : List ℕ) (r : ℕ) → ShortPlaceSays k n w t t′ r → r ≡ given (shortWindowRules k n w ++ trayRules t 8)
+  pub print-marks : (lengths : Lengths) (k n p c : ℕ) (t t′ : List ℕ) (r : ℕ) → PrintOn lengths k n p c t t′ r
+      → r ≡ given (placeRules lengths k n p ++ trayRules t c)
   pub print-picture : (k n p c h : ℕ) (t t′ : List ℕ) (r : DV.Value) → PictureSays k n p c h t t′ r → r .number ≡ given (pictureRules k n p c h ++ trayRules t (fileSize c h))
   pub picture-of : (k n p c h : ℕ) (s s′ t t′ : List ℕ) (r : ℕ) → BothSay k n p c h s s′ t t′ r
       → r ≡ given (pictureRules k n p c h ++ traysRules s 8 t (fileSize c h))
@@ -107,10 +117,11 @@ pub record Refusals : Type 0 where
   pub misreadings-of : (s w c c′ t t′ : List ℕ) (r : ℕ) → MisreadingListSays s w c c′ t t′ r → r ≡ given (layingRules s w ++ traysRules c 8 t (listSize s w))
   pub bill : (s : List ℕ) (p c : ℕ) (r : DV.Value) → BillSays s p c r → r .number ≡ given (billRules s p c)
   pub bill-of : (s : List ℕ) (p c : ℕ) (t t′ : List ℕ) (r : ℕ) → BillOfSays s p c t t′ r → r ≡ given (billRules s p c ++ trayRules t 8)
-  pub start-cursor : (k n p : ℕ) (r : DS.Started) → StartSays k n p r → r .number ≡ given (placeRules k n p)
-  pub cursor-place : (c : DC.Cursor) (r : DV.Value) → WhereSays c r → r .number ≡ given (cursorRules c)
-  pub step : (c : DC.Cursor) (r : DT.Stepped) → StepSays c r → r .number ≡ given (cursorRules c)
-  pub step-back : (c : DC.Cursor) (r : DT.Stepped) → BackSays c r → r .number ≡ given (cursorRules c)
+  -- a cursor, on either ring
+  pub start-cursor : (lengths : Lengths) (k n p : ℕ) (r : DS.Started) → StartOn lengths k n p r → r .number ≡ given (placeRules lengths k n p)
+  pub cursor-place : (lengths : Lengths) (c : DC.Cursor) (r : DV.Value) → WhereOn lengths c r → r .number ≡ given (cursorRules lengths c)
+  pub step : (lengths : Lengths) (c : DC.Cursor) (r : DT.Stepped) → StepOn lengths c r → r .number ≡ given (cursorRules lengths c)
+  pub step-back : (lengths : Lengths) (c : DC.Cursor) (r : DT.Stepped) → BackOn lengths c r → r .number ≡ given (cursorRules lengths c)
   -- 9 applies just when the window, without fault itself, is read at no place where it lies in a section of the accepted plan
   pub not-laid : (s w : List ℕ) → given (planRules s) ≡ 0 → given (markRules (shades s) (marks s) w) ≡ 0
       → (layingOf s w ≡ 0) ↔ ((i p : ℕ) → Lies (marks s) (sections s) i p → window (shades s) (marks s) p ≢ w)

@@ -4,10 +4,11 @@ use mathlib.Core.List.{List}
 use mathlib.Core.Logic.{_≢_}
 use Prim.Native.Nat.{ℕ}
 use lib.ListN.{length, drop}
+use Rattle.shape.specs.declared.Lengths.{Lengths}
 use Rattle.calls.specs.declared.Value as DV
 use Rattle.words.specs.Says.{RotationSays, TurnSays}
 use Rattle.ranking.specs.Says.{RankSays, WordSays}
-use Rattle.marks.specs.Says.{MarkSays, PlaceSays, PrintSays}
+use Rattle.marks.specs.Says.{MarkOn, PlaceSays, ShortPlaceSays, PrintOn}
 use Rattle.pbm.specs.Pictures.{fileSize}
 use Rattle.pictures.specs.Says.{PictureSays, BothSay}
 use Rattle.lookups.specs.Says.{answerSize, LookupSays, SmudgedSays}
@@ -23,9 +24,11 @@ pub record Trays : Type 0 where
   pub turn-of : (k n : ℕ) (w t t′ : List ℕ) (r : ℕ) → TurnSays k n w t t′ r → Keeps 8 t t′ r
   pub rank-of : (k n : ℕ) (w t t′ : List ℕ) (r : ℕ) → RankSays k n w t t′ r → Keeps 8 t t′ r
   pub word-of : (k n i : ℕ) (t t′ : List ℕ) (r : ℕ) → WordSays k n i t t′ r → Keeps n t t′ r
-  pub mark-at : (k n p : ℕ) (t t′ : List ℕ) (r : ℕ) → MarkSays k n p t t′ r → Keeps 8 t t′ r
+  -- on either ring
+  pub mark-at : (lengths : Lengths) (k n p : ℕ) (t t′ : List ℕ) (r : ℕ) → MarkOn lengths k n p t t′ r → Keeps 8 t t′ r
   pub place-of : (k n : ℕ) (w t t′ : List ℕ) (r : ℕ) → PlaceSays k n w t t′ r → Keeps 8 t t′ r
-  pub print-marks : (k n p c : ℕ) (t t′ : List ℕ) (r : ℕ) → PrintSays k n p c t t′ r → Keeps c t t′ r
+  pub short-place-of : (k n : ℕ) (w t t′ : List ℕ) (r : ℕ) → ShortPlaceSays k n w t t′ r → Keeps 8 t t′ r
+  pub print-marks : (lengths : Lengths) (k n p c : ℕ) (t t′ : List ℕ) (r : ℕ) → PrintOn lengths k n p c t t′ r → Keeps c t t′ r
   pub print-picture : (k n p c h : ℕ) (t t′ : List ℕ) (r : DV.Value) → PictureSays k n p c h t t′ r → Keeps (fileSize c h) t t′ (r .number)
   pub picture-of : (k n p c h : ℕ) (s s′ t t′ : List ℕ) (r : ℕ) → BothSay k n p c h s s′ t t′ r → Keeps 8 s s′ r × Keeps (fileSize c h) t t′ r
   pub look-up : (s w t t′ : List ℕ) (r : ℕ) → LookupSays s w t t′ r → Keeps answerSize t t′ r

@@ -10,6 +10,7 @@ ghost use Rattle.lines.specs.Lines.{line};
 ghost use Rattle.listing.specs.Listings.{most, stripLine, sectionLine, sectionLines, listing};
 use calls::Checked;
 use sections::Section;
+use shape::Lengths;
 use shape::Strip;
 
 // Bytes that hold any listing: a plan has at most 500 sections.
@@ -36,7 +37,7 @@ fn put_section(s: Strip, i: u64, section: Section, out: &mut [u8], at: usize) ->
     let numbers = texts::put_number(section.long, b' ', out, offset);
     let mut room = [0u8; Strip::LONGEST];
     let window = &mut room[..s.n as usize];
-    access::letters(s, section.offset, window);
+    access::letters(Lengths::Divisors, s, section.offset, window);
     let end = texts::put_letters(window, out, numbers);
     texts::put_bytes(b"\n", out, end)
 }

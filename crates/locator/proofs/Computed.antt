@@ -11,6 +11,7 @@ use Rattle.theory.specs.Rings.{cursor}
 use Rattle.theory.specs.Strips.{marksFrom, placeOf, placeIn}
 use Rattle.theory.specs.Sums.{cs}
 use Rattle.shape.specs.declared.Strip as DS
+use Rattle.shape.specs.declared.Lengths.the-variants.{Divisors}
 use Rattle.shape.specs.Shapes.{WordOn}
 use Rattle.shape.proofs.Limits.{limits}
 use Rattle.rings.specs.Moves.{HeldOn}
@@ -56,8 +57,8 @@ module _ {s : DS.Strip} {w : List ℕ} {t : ℕ} {v : List ℕ} {long : ℕ} (on
   pub letters-short : long + length w ≤ 120
   letters-short = omega (arith, size, root-inside on at, on .long, limits (on .shaped) .short)
 
-  pub word-held : HeldOn s v long × (0 < long)
-  word-held = subst (λ x. HeldOn s v x × (0 < x)) (sym size) (base-held on at)
+  pub word-held : HeldOn Divisors s v long × (0 < long)
+  word-held = subst (λ x. HeldOn Divisors s v x × (0 < x)) (sym size) (base-held on at)
 
   pub word-inside : {end : ℕ} → end ≡ cs (s .k) v → long ≤ end
   word-inside e = omega (arith, e, size, base-root on at .ends)

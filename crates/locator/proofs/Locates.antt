@@ -25,6 +25,7 @@ use Rattle.theory.proofs.Reading.{letters-length, letters-split}
 use Rattle.theory.proofs.Rings.{one-place}
 use Rattle.theory.proofs.Locating.{Root-word, root-word, end-place, Start-place, start-place, top-place, zero-place}
 use Rattle.shape.specs.declared.Strip as DS
+use Rattle.shape.specs.declared.Lengths.the-variants.{Divisors}
 use Rattle.shape.specs.Shapes.{WordOn}
 use Rattle.shape.proofs.Limits.{Limits, limits}
 use Rattle.floors.specs.Lowering.{Lowerable}
@@ -207,7 +208,7 @@ module _ {s : DS.Strip} {w : List ℕ} (on : WordOn s w) where
       on .shaped .size ∙ ap (λ x. s .k ^ x) (sym (at .long)),
     )
 
-    pub base-held : HeldOn s v (root v) × (0 < root v)
+    pub base-held : HeldOn Divisors s v (root v) × (0 < root v)
     base-held = (
       record {
         shaped = on .shaped;

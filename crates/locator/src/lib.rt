@@ -7,13 +7,14 @@ ghost use Rattle.theory.specs.Words.{pick};
 ghost use Rattle.theory.specs.Strips.{placeOf};
 ghost use Rattle.shape.specs.Shapes.{WordOn};
 ghost use Rattle.locator.specs.Fits.{leading, firstFit, Based, baseOf};
+use shape::Lengths;
 use shape::Strip;
 
 // The longest text that a window is matched against: a word and a window more.
 const TEXT: usize = 2 * Strip::LONGEST;
 
 // How many letters b stand at the start.
-fn count_leading(b: u8, w: &[u8]) -> usize
+pub fn count_leading(b: u8, w: &[u8]) -> usize
     ensures { λ r. ⌜ r ≡ leading b (now (w .entry)) ⌝ }
 {
     let mut i = 0;
@@ -97,6 +98,6 @@ pub fn place_of(s: Strip, w: &[u8]) -> u64
     let long = rotations::shortest_root(v);
     let mut letters = [0u8; TEXT];
     let text = &mut letters[..long + n];
-    rings::write_from(s, v, long, 0, text);
+    rings::write_from(Lengths::Divisors, s, v, long, 0, text);
     end - long as u64 + first_fit(text, w) as u64
 }

@@ -10,6 +10,7 @@ ghost use Rattle.shape.specs.Shapes.{Shaped};
 ghost use Rattle.texts.specs.Texts.{Adds};
 ghost use Rattle.pbm.specs.Pictures.{rowSize, fileSize, rowText, headText, picture};
 ghost use Rattle.pbm.specs.Parts.{Frame, Drawable, Parted};
+use shape::Lengths;
 use shape::Strip;
 
 // A line has so many digits.
@@ -62,7 +63,7 @@ fn put_row(s: Strip, place: u64, width: u64, out: &mut [u8])
     ensures { λ _. ⌜ now (out .exit) ≡ rowText (marksFrom (s .k) (s .n) place width) ⌝ }
 {
     let lead = out.len() - width as usize;
-    access::letters(s, place, &mut out[lead..]);
+    access::letters(Lengths::Divisors, s, place, &mut out[lead..]);
     spread(out, lead);
 }
 

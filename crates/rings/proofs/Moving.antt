@@ -1,68 +1,54 @@
 -- The same way in a buffer, on or back: the word that is held, the count of words passed, and what each step to a neighbouring Lyndon word makes of them.
 use mathlib.Core.Path.{_≡_, sym, _∙_, ap, subst, subst₂}
 use mathlib.Core.Bool.{Bool, true, false}
-use mathlib.Core.List.{List, [], _∷_}
-use mathlib.Core.Logic.{inl, inr}
-use Prim.Native.Nat.{ℕ, zero, suc, _+_, _-_, _%_, _≤_, _<_}
+use mathlib.Core.List.{List, []}
+use Prim.Native.Nat.{ℕ, _+_, _-_, _≤_, _<_}
 use native.Mathlib.Omega.{arith}
 use native.Mathlib.Numerals.{add-one}
-use lib.ListN.{length, take, set, replicate, length-append, length-replicate}
+use lib.ListN.{length, take, replicate, length-append, length-replicate}
 use lib.Seq.{length-take-le, take-at}
 use Rattle.theory.specs.Words.{pick, isLyndon}
 use Rattle.theory.specs.Lists.{In}
 use Rattle.theory.specs.Rings.{lyndonsUp, ringWords, divides}
-use Rattle.theory.specs.Strips.{stripWords, divisorOf}
 use Rattle.theory.specs.Steps.{nextLyndon, wordBefore}
-use Rattle.theory.proofs.Base.{test, nil-of}
+use Rattle.theory.proofs.Base.{nil-of}
 use Rattle.theory.proofs.Lyndon.{lyndon-some}
-use Rattle.theory.proofs.Divisors.{mod-div, div-mod, divides-out, divides-in, divides-le}
-use Rattle.theory.proofs.Listed.{lyndon-up-words, strip-words}
-use Rattle.theory.proofs.Tops.{one-less}
+use Rattle.theory.proofs.Divisors.{divides-le}
+use Rattle.theory.proofs.Listed.{lyndon-up-words, ring-words}
 use Rattle.shape.specs.declared.Strip as DS
+use Rattle.shape.specs.declared.Lengths.{Lengths}
+use Rattle.shape.specs.Rings.{okOf}
 use Rattle.shape.proofs.Limits.{limits}
+use Rattle.shape.proofs.Rings.{allowed-of}
 use Rattle.steps.specs.Steps.{padded, Held, Put, NextIs, PreviousIs}
 use Rattle.rings.specs.Moves.{HeldOn, MovedTo}
 use Rattle.rings.proofs.Directions.{Direction, counted, ahead, Laws, Way, Onward, Turn, ended, moved, antisym, way-begins, turn, arrived, further-on}
-use Rattle.rings.proofs.Ways.{forth, back, First, strip-forth, strip-back}
+use Rattle.rings.proofs.Round.{Puts}
+use Rattle.rings.proofs.Ways.{forth, back, First, forth-of, back-of}
 
 -- a word with zeros after it in a buffer
 pub padded-length : (n : ℕ) (y : List ℕ) → length y ≤ n → length (padded n y) ≡ n
 padded-length n y h = omega (arith, length-append y (replicate (n - length y) 0), length-replicate {A = ℕ} (n - length y) 0)
 
--- in an empty buffer, the word 0; and any other letter, once it is put there
-zeros-cons : (n : ℕ) → 1 ≤ n → padded n [] ≡ 0 ∷ replicate (n - 1) 0
-zeros-cons zero h = absurd (omega arith)
-zeros-cons (suc m) h = let all : suc m - 0 ≡ suc m = omega arith in ap (λ i. replicate i 0) all ∙ ap (λ i. 0 ∷ replicate i 0) (sym (one-less m))
-
-pub zeros-first : {n : ℕ} {w : List ℕ} → 1 ≤ n → w ≡ padded n [] → w ≡ padded n (0 ∷ [])
-zeros-first {n} h e = e ∙ zeros-cons n h
-
-pub letter-put : {n : ℕ} {w : List ℕ} (a : ℕ) → 1 ≤ n → w ≡ padded n [] → set w 0 a ≡ padded n (a ∷ [])
-letter-put {n} a h e = ap (λ v. set v 0 a) (e ∙ zeros-cons n h)
-
--- a length that divides n, by the remainder
-pub whole : (m n : ℕ) → (m ≡ 0 → ⊥) → n % m ≡ 0 → divides m n ≡ true
-whole m n d e = divides-in (omega (arith, d)) (mod-div m n e)
-
-pub not-whole : (m n : ℕ) → (n % m ≡ 0 → ⊥) → divides m n ≡ false
-not-whole m n f = elim (test (divides m n)) [ inl t ↦ absurd (f (div-mod (divides-out m n t))) | inr t ↦ t ]
-
 -- the word that is held
-module _ {s : DS.Strip} {w : List ℕ} {l : ℕ} (h : HeldOn s w l) where
+module _ {lengths : Lengths} {s : DS.Strip} {w : List ℕ} {l : ℕ} (h : HeldOn lengths s w l) where
+  held-divides : divides l (s .n) ≡ true
+  held-divides = allowed-of lengths (s .n) (limits (h .shaped) .some) .divisor l (h .allowed)
+
   pub held-fits : l ≤ length w
-  held-fits = omega (arith, h .size, divides-le l (s .n) (limits (h .shaped) .some) (h .allowed))
+  held-fits = omega (arith, h .size, divides-le l (s .n) (limits (h .shaped) .some) held-divides)
 
   pub held-length : length (take l w) ≡ l
   held-length = length-take-le l w held-fits
 
-  pub held-in : In (take l w) (stripWords (s .k) (s .n))
-  held-in = strip-words (s .k) (s .n) (take l w) (limits (h .shaped) .some) .1 (ap (λ i. divides i (s .n)) held-length ∙ h .allowed, h .marks, h .lyndon)
+  pub held-in : In (take l w) (ringWords (okOf lengths (s .n)) (s .k) (s .n))
+  held-in = ring-words (okOf lengths (s .n)) (s .k) (s .n) (take l w) .1 (omega (arith, held-length, held-fits, h .size), h .marks, h .lyndon, ap (okOf lengths (s .n)) held-length ∙ h .allowed)
 
-  pub forth-on : Laws (forth (divisorOf (s .n)) (s .k) (s .n)) (divisorOf (s .n)) (s .k) (s .n)
-  forth-on = let r = limits (h .shaped) in strip-forth (s .k) (s .n) (r .two) (r .some)
+  pub forth-on : Laws (forth (okOf lengths (s .n)) (s .k) (s .n)) (okOf lengths (s .n)) (s .k) (s .n)
+  forth-on = let r = limits (h .shaped) in forth-of lengths (s .k) (s .n) (r .two) (r .some)
 
-  pub back-on : Laws (back (divisorOf (s .n)) (s .k) (s .n)) (divisorOf (s .n)) (s .k) (s .n)
-  back-on = let r = limits (h .shaped) in strip-back (s .k) (s .n) (r .two) (r .some)
+  pub back-on : Laws (back (okOf lengths (s .n)) (s .k) (s .n)) (okOf lengths (s .n)) (s .k) (s .n)
+  back-on = let r = limits (h .shaped) in back-of lengths (s .k) (s .n) (r .two) (r .some)
 
 -- the buffer and the count on the way from u
 pub record Going (d : Direction) (ok : ℕ → Bool) (k n : ℕ) (u w : List ℕ) (l passed : ℕ) : Type 0 where
@@ -70,9 +56,9 @@ pub record Going (d : Direction) (ok : ℕ → Bool) (k n : ℕ) (u w : List ℕ
   pub fits : l ≤ length w
   pub way : Way d ok k n u (take l w) passed
 
-pub way-starts : {s : DS.Strip} {w : List ℕ} {l : ℕ} {d : Direction} → HeldOn s w l → Laws d (divisorOf (s .n)) (s .k) (s .n)
-    → Going d (divisorOf (s .n)) (s .k) (s .n) (take l w) w l 0
-way-starts {s} {w} {l} h r = record { size = h .size; fits = held-fits h; way = way-begins r (take l w) (held-in h) }
+pub way-starts : {lengths : Lengths} {s : DS.Strip} {w : List ℕ} {l : ℕ} {d : Direction} → HeldOn lengths s w l → Laws d (okOf lengths (s .n)) (s .k) (s .n)
+    → Going d (okOf lengths (s .n)) (s .k) (s .n) (take l w) w l 0
+way-starts {lengths} {s} {w} {l} h r = record { size = h .size; fits = held-fits h; way = way-begins r (take l w) (held-in h) }
 
 -- a step's answer, in a buffer of n letters
 module _ {ok : ℕ → Bool} {k n : ℕ} {u w after : List ℕ} {l m passed : ℕ} where
@@ -111,14 +97,23 @@ module _ {d : Direction} {ok : ℕ → Bool} {k n : ℕ} (r : Laws d ok k n) {u 
     some-of j = omega (arith, q .size, lyndon-some y (lyndon-up-words k n y .0 j .2))
 
     -- nothing is left: the buffer is empty, and the way goes on at the first word
-    pub emptied : m ≡ 0 → after ≡ padded n []
+    emptied : m ≡ 0 → after ≡ padded n []
     emptied e = q .buffer ∙ ap (padded n) (nil-of y (sym (q .size) ∙ e))
 
-    pub wraps : {f v : List ℕ} → m ≡ 0 → First d ok k n f → v ≡ padded n f → MovedTo n (d .leads u) (passes d k n u) v (record { long = length f; passed = 0 })
-    wraps {f} {v} e first put = elim turn-of [
+    -- so it asks for that word, which is put there
+    pub size-kept : m ≡ 0 → length after ≡ n
+    size-kept e = ap length (emptied e) ∙ padded-length n [] (omega arith)
+
+    pub asks-round : 1 ≤ n → m ≡ 0 → (1 ≤ length after) × (after ≡ padded (length after) [])
+    asks-round one e = (omega (arith, size-kept e), emptied e ∙ ap (λ i. padded i []) (sym (size-kept e)))
+
+    pub wraps : (word : ℕ → List ℕ) {v : List ℕ} {long : ℕ} → m ≡ 0 → First d ok k n (word n) → Puts (length after) (word (length after)) v long
+        → MovedTo n (d .leads u) (passes d k n u) v (record { long = long; passed = 0 })
+    wraps word {v} {long} e first put = elim turn-of [
       | ended a b z ↦
-          let is : f ≡ d .leads u = antisym r (first .before (d .leads u) (r .lead-in u i)) (z f (first .on-ring)) in
-          record { word = put ∙ ap (padded n) is; size = ap length is; passed = ap (λ t. pick t (counted d k n u (d .leads u)) 0) (sym b) }
+          let is : word n ≡ d .leads u = antisym r (first .before (d .leads u) (r .lead-in u i)) (z (word n) (first .on-ring)) in
+          let (buffer, size) = subst (λ j. Puts j (word j) v long) (size-kept e) put in
+          record { word = buffer ∙ ap (padded n) is; size = size ∙ ap length is; passed = ap (λ t. pick t (counted d k n u (d .leads u)) 0) (sym b) }
       | moved o ↦ absurd (omega (arith, some-of (o .listed)))
     ]
 

@@ -1,22 +1,30 @@
--- The two ways along a ring, on and back: the laws of each, for any ring, and the words with which the strip begins and ends.
-use mathlib.Core.Path.{_≡_, refl, sym, _∙_, ap, subst}
+-- The two ways along a ring, on and back: the laws of each, for any ring, and the words with which the strip and the short ring begin and end.
+use mathlib.Core.Path.{_≡_, refl, sym, _∙_, ap, ap₂, subst}
 use mathlib.Core.Bool.{Bool, true, false}
-use mathlib.Core.List.{List, [], _∷_}
+use mathlib.Core.List.{List, [], _∷_, _++_}
 use mathlib.Core.Logic.{_⊎_, inl, inr}
-use Prim.Native.Nat.{ℕ, _-_, _≤_, _<_}
+use Prim.Native.Nat.{ℕ, zero, suc, _-_, _≤_, _<_}
 use native.Mathlib.Omega.{arith}
-use lib.ListN.{length}
-use borrow.Author.Tests.{lt-ltb}
+use lib.ListN.{length, replicate}
+use borrow.Author.Tests.{lt-ltb, le-ltb, eq-eqb}
 use Rattle.theory.specs.Words.{pick, same, below, upTo}
 use Rattle.theory.specs.Lists.{In}
 use Rattle.theory.specs.Rings.{lyndonsUp, Allowed, ringWords, cursor, nextOn, previousOn}
-use Rattle.theory.specs.Strips.{stripWords, divisorOf}
+use Rattle.theory.specs.Strips.{divisorOf}
+use Rattle.theory.specs.Shorts.{whole}
+use Rattle.shape.specs.declared.Lengths.{Lengths}
+use Rattle.shape.specs.declared.Lengths.the-variants.{Divisors, Whole}
+use Rattle.shape.specs.Rings.{okOf}
+use Rattle.shape.proofs.Rings.{allowed-of}
+use Rattle.rings.specs.Moves.{firstWord, lastWord}
 use Rattle.theory.specs.Steps.{nextLyndon, previousLyndon, wordBefore}
-use Rattle.theory.proofs.Base.{test, and-in}
+use Rattle.theory.proofs.Base.{upto, over, split, test, and-in}
 use Rattle.theory.proofs.Order.{same-eq, same-ne, lt-below, below-lt, lt-le, le-refl, eq-le, le-cases, le-lt-trans, lt-le-trans, not-lt, not-below, le-not-below, le-upTo, upTo-le}
 use Rattle.theory.proofs.Lyndon.{lyndon-some, lyndon-out, one-letter}
-use Rattle.theory.proofs.Divisors.{mod-div, divides-in, divisors-allowed}
-use Rattle.theory.proofs.Listed.{lyndon-up-words, ring-words, ring-ascend, strip-words}
+use Rattle.theory.proofs.Divisors.{divides-one}
+use Rattle.theory.proofs.Listed.{lyndon-up-words, ring-words, ring-ascend}
+use Rattle.theory.proofs.Tops.{one-less}
+use Rattle.theory.proofs.Shorts.{first-in, first-least, last-in, last-most}
 use Rattle.theory.proofs.Steps.{steps, not-zero, zero-first}
 use Rattle.theory.proofs.Passed.{not-top, ring-listed, passed-few, passed-few-back}
 use Rattle.theory.proofs.Joined.{onward as after-larger, around as after-last, backward as before-smaller, from-end as before-first, word-after, word-before}
@@ -113,26 +121,62 @@ pub record First (d : Direction) (ok : ℕ → Bool) (k n : ℕ) (f : List ℕ) 
   pub on-ring : In f (ringWords ok k n)
   pub before : (y : List ℕ) → In y (ringWords ok k n) → d .upto f y ≡ true
 
--- on the strip these are the letters 0 and k−1
-module _ (k n : ℕ) (two : 2 ≤ k) (one : 1 ≤ n) where
-  pub strip-forth : Laws (forth (divisorOf n) k n) (divisorOf n) k n
-  strip-forth = forth-laws (divisorOf n) k n two one (divisors-allowed n one)
+-- on a ring with words of one letter these are 0 and k−1
+module _ (ok : ℕ → Bool) (k n : ℕ) (two : 2 ≤ k) (one : 1 ≤ n) (letters : ok 1 ≡ true) where
+  letter-in : (a : ℕ) → a < k → In (a ∷ []) (ringWords ok k n)
+  letter-in a h = ring-words ok k n (a ∷ []) .1 (one, and-in (lt-ltb a k h) refl, lyndon-out (one-letter a), letters)
 
-  pub strip-back : Laws (back (divisorOf n) k n) (divisorOf n) k n
-  strip-back = back-laws (divisorOf n) k n two one (divisors-allowed n one)
-
-  letter-in : (a : ℕ) → a < k → In (a ∷ []) (stripWords k n)
-  letter-in a h = strip-words k n (a ∷ []) one .1 (divides-in (omega arith) (mod-div 1 n (omega arith)), and-in (lt-ltb a k h) refl, lyndon-out (one-letter a))
-
-  pub listed-some : {x : List ℕ} → In x (stripWords k n) → 0 < length x
-  listed-some {x} i = lyndon-some x (strip-words k n x one .0 i .2)
-
-  pub strip-first : First (forth (divisorOf n) k n) (divisorOf n) k n (0 ∷ [])
-  strip-first = record { on-ring = letter-in 0 (omega arith); before = λ y i. least i (test (same y (0 ∷ []))) }
+  letter-first : First (forth ok k n) ok k n (0 ∷ [])
+  letter-first = record { on-ring = letter-in 0 (omega arith); before = λ y i. least i (test (same y (0 ∷ []))) }
     where
-      least : {y : List ℕ} → In y (stripWords k n) → (same y (0 ∷ []) ≡ true) ⊎ (same y (0 ∷ []) ≡ false) → upTo (0 ∷ []) y ≡ true
+      least : {y : List ℕ} → In y (ringWords ok k n) → (same y (0 ∷ []) ≡ true) ⊎ (same y (0 ∷ []) ≡ false) → upTo (0 ∷ []) y ≡ true
       least {y} i (inl t) = le-upTo (eq-le (sym (same-eq y (0 ∷ []) t)))
-      least {y} i (inr t) = le-upTo (lt-le (zero-first y (listed-some i) (same-ne t)))
+      least {y} i (inr t) = le-upTo (lt-le (zero-first y (lyndon-some y (ring-words ok k n y .0 i .2)) (same-ne t)))
 
-  pub strip-last : First (back (divisorOf n) k n) (divisorOf n) k n ((k - 1) ∷ [])
-  strip-last = record { on-ring = letter-in (k - 1) (omega arith); before = λ y i. le-upTo (not-lt (λ l. not-top k n two (ring-listed (divisorOf n) k n i) l refl)) }
+  letter-last : First (back ok k n) ok k n ((k - 1) ∷ [])
+  letter-last = record { on-ring = letter-in (k - 1) (omega arith); before = λ y i. le-upTo (not-lt (λ l. not-top k n two (ring-listed ok k n i) l refl)) }
+
+-- on the short ring, if its words have more than one letter, 0 .. 0 1 and k−2 k−1 .. k−1
+whole-first : (k n : ℕ) → 2 ≤ k → 2 ≤ n → First (forth (whole n) k n) (whole n) k n (replicate (n - 1) 0 ++ (1 ∷ []))
+whole-first k zero h g = absurd (omega arith)
+whole-first k (suc zero) h g = absurd (omega arith)
+whole-first k (suc (suc m)) h g =
+    subst (λ i. First (forth (whole (suc (suc m))) k (suc (suc m))) (whole (suc (suc m))) k (suc (suc m)) (replicate i 0 ++ (1 ∷ []))) (sym (one-less (suc m)))
+    (record { on-ring = first-in k m h; before = λ y i. le-upTo (first-least k m i) })
+
+whole-last : (k n : ℕ) → 2 ≤ k → 2 ≤ n → First (back (whole n) k n) (whole n) k n ((k - 2) ∷ replicate (n - 1) (k - 1))
+whole-last zero n h g = absurd (omega arith)
+whole-last (suc z) zero h g = absurd (omega arith)
+whole-last (suc z) (suc zero) h g = absurd (omega arith)
+whole-last (suc z) (suc (suc m)) h g =
+    let second : z - 1 ≡ suc z - 2 = omega arith in
+    let word : (z - 1) ∷ replicate (suc m) z ≡ (suc z - 2) ∷ replicate (suc (suc m) - 1) (suc z - 1) = ap₂ _∷_ second (ap₂ replicate (sym (one-less (suc m))) (sym (one-less z))) in
+    subst (First (back (whole (suc (suc m))) (suc z) (suc (suc m))) (whole (suc (suc m))) (suc z) (suc (suc m))) word
+    (record { on-ring = last-in z m (omega arith); before = λ y i. le-upTo (last-most z m (omega arith) i) })
+
+module _ (r : Lengths) (k n : ℕ) (two : 2 ≤ k) (one : 1 ≤ n) where
+  pub forth-of : Laws (forth (okOf r n) k n) (okOf r n) k n
+  forth-of = forth-laws (okOf r n) k n two one (allowed-of r n one)
+
+  pub back-of : Laws (back (okOf r n) k n) (okOf r n) k n
+  back-of = back-laws (okOf r n) k n two one (allowed-of r n one)
+
+  pub first-of : First (forth (okOf r n) k n) (okOf r n) k n (firstWord r n)
+  first-of = go r
+    where
+      go : (r : Lengths) → First (forth (okOf r n) k n) (okOf r n) k n (firstWord r n)
+      go Divisors = letter-first (divisorOf n) k n two one (divides-one n)
+      go Whole = elim (split 2 n) [
+        | upto l ↦ rw (lt-ltb 1 n l) (whole-first k n two l)
+        | over l ↦ rw (le-ltb 1 n (omega arith)) (letter-first (whole n) k n two one (eq-eqb 1 n (omega arith)))
+      ]
+
+  pub last-of : First (back (okOf r n) k n) (okOf r n) k n (lastWord r k n)
+  last-of = go r
+    where
+      go : (r : Lengths) → First (back (okOf r n) k n) (okOf r n) k n (lastWord r k n)
+      go Divisors = letter-last (divisorOf n) k n two one (divides-one n)
+      go Whole = elim (split 2 n) [
+        | upto l ↦ rw (lt-ltb 1 n l) (whole-last k n two l)
+        | over l ↦ rw (le-ltb 1 n (omega arith)) (letter-last (whole n) k n two one (eq-eqb 1 n (omega arith)))
+      ]

@@ -2,3 +2,4 @@
 pub mod Powers
 pub mod Limits
 pub mod Making
+pub mod Rings

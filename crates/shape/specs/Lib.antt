@@ -1,2 +1,3 @@
 -- What the power and the strip's constructor answer.
 pub mod Shapes
+pub mod Rings

@@ -14,6 +14,12 @@ pub struct Strip {
     pub size: u64,
 }
 
+// The lengths of the words that a ring joins: all that divide n, which makes the strip, or n alone, which makes the short ring.
+pub enum Lengths {
+    Divisors,
+    Whole,
+}
+
 pub enum Made {
     Fine(Strip),
     Refused,

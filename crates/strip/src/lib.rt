@@ -1,7 +1,7 @@
 // The boundary for C: each call is one line that calls its family, with the family's promise. include/strip.h declares them.
 ghost use Rattle.words.specs.Says.{TurnSays};
 ghost use Rattle.ranking.specs.Says.{RankSays, WordSays};
-ghost use Rattle.marks.specs.Says.{MarkSays, PlaceSays, PrintSays};
+ghost use Rattle.marks.specs.Says.{MarkSays, PlaceSays, PrintSays, ShortMarkSays, ShortPlaceSays, ShortPrintSays};
 ghost use Rattle.lookups.specs.Says.{LookupSays, SmudgedSays};
 ghost use Rattle.misreadings.specs.Says.{MisreadingListSays};
 ghost use Rattle.bills.specs.Says.{BillOfSays};
@@ -53,6 +53,30 @@ pub extern "C" fn print_marks(k: u64, n: u64, place: u64, marks: u64, tray: &mut
     ensures { λ r. ⌜ PrintSays k n place marks (now (tray .entry)) (now (tray .exit)) r ⌝ }
 {
     marks::print_marks(k, n, place, marks, tray)
+}
+
+// The mark at a place of the short ring, as 8 bytes.
+#[no_mangle]
+pub extern "C" fn short_mark_at(k: u64, n: u64, place: u64, tray: &mut [u8]) -> u8
+    ensures { λ r. ⌜ ShortMarkSays k n place (now (tray .entry)) (now (tray .exit)) r ⌝ }
+{
+    marks::short_mark_at(k, n, place, tray)
+}
+
+// The place of a window on the short ring, as 8 bytes.
+#[no_mangle]
+pub extern "C" fn short_place_of(k: u64, n: u64, window: &[u8], tray: &mut [u8]) -> u8
+    ensures { λ r. ⌜ ShortPlaceSays k n (now (window .entry)) (now (tray .entry)) (now (tray .exit)) r ⌝ }
+{
+    marks::short_place_of(k, n, window, tray)
+}
+
+// The marks of the short ring from a place on, as many as are asked for, in the tray's first bytes.
+#[no_mangle]
+pub extern "C" fn short_print_marks(k: u64, n: u64, place: u64, marks: u64, tray: &mut [u8]) -> u8
+    ensures { λ r. ⌜ ShortPrintSays k n place marks (now (tray .entry)) (now (tray .exit)) r ⌝ }
+{
+    marks::short_print_marks(k, n, place, marks, tray)
 }
 
 // The section that a window is read in, in 2 bytes, its distance from the section's start, in 8, and the section's rail, in 2.

@@ -57,6 +57,9 @@ divides-out d n t = test-div d n (and-r (leb 1 d) _ t)
 pub divides-in : {d n : ℕ} → 1 ≤ d → Div d n → divides d n ≡ true
 divides-in {d} {n} h k = and-in (le-leb 1 d h) (div-test k)
 
+pub divides-one : (n : ℕ) → divides 1 n ≡ true
+divides-one n = divides-in {d = 1} {n = n} (omega arith) (times n (omega arith))
+
 pub divides-some : (d n : ℕ) → divides d n ≡ true → 1 ≤ d
 divides-some d n h = leb-true 1 d (and-l (leb 1 d) (eqb (n % d) 0) h)
 

@@ -7,13 +7,13 @@ use mathlib.Core.Logic.{inl, inr}
 use Prim.Native.Nat.{ℕ, _+_, _*_, _≤_}
 use native.Mathlib.Omega.{arith}
 use native.Mathlib.Nat.{mul-comm}
-use lib.Dec.{eqb}
 use lib.ListN.{length}
 use borrow.Author.Tests.{eqb-true, eq-eqb}
 use Rattle.theory.specs.Words.{upTo, smallest, allWords, lyndons, keep, powerTo}
 use Rattle.theory.specs.Lists.{In, Ascending}
 use Rattle.theory.specs.Rings.{Allowed, ringWords, beforeW}
 use Rattle.theory.specs.Strips.{divisorOf}
+use Rattle.theory.specs.Shorts.{whole, shortWords}
 use Rattle.theory.specs.Theorems.{Ends, Strip-ends, Short-ends}
 use Rattle.theory.proofs.Order.{Le, le-upTo, upTo-le, lt-le, le-cases, eq-le, not-lt, le-not-lt}
 use Rattle.theory.proofs.Lists.{found, in-split, keep-in, in-keep, keep-once, ascend-once}
@@ -58,22 +58,22 @@ strip-ends k n u s i =
 
 pub short-ends : Short-ends
 short-ends k n u s i =
-    end-is ws u (ring-ascend (λ d. eqb d n) k n) i
+    end-is ws u (ring-ascend (whole n) k n) i
     ∙ sum-ext length (λ v. n) (keep (λ v. upTo v u) ws) (λ v j. long v (keep-in (λ v. upTo v u) ws j .0))
     ∙ sum-const n (keep (λ v. upTo v u) ws) ∙ mul-comm (length (keep (λ v. upTo v u) ws)) n
     ∙ ap (λ r. n * r) (counts ∙ ap (λ r. length (keep (λ v. upTo v u) (lyndons k r))) (sym (long u i)))
   where
     ws : List (List ℕ)
-    ws = ringWords (λ d. eqb d n) k n
+    ws = shortWords k n
 
     long : (v : List ℕ) → In v ws → length v ≡ n
-    long v j = eqb-true (length v) n (ring-words (λ d. eqb d n) k n v .0 j .3)
+    long v j = eqb-true (length v) n (ring-words (whole n) k n v .0 j .3)
 
     counts : length (keep (λ v. upTo v u) ws) ≡ length (keep (λ v. upTo v u) (lyndons k n))
     counts =
         once-eq (keep (λ v. upTo v u) ws) (keep (λ v. upTo v u) (lyndons k n))
-        (keep-once (λ v. upTo v u) ws (ascend-once ws (ring-ascend (λ d. eqb d n) k n)))
+        (keep-once (λ v. upTo v u) ws (ascend-once ws (ring-ascend (whole n) k n)))
         (keep-once (λ v. upTo v u) (lyndons k n) (ascend-once (lyndons k n) (lyndon-ascend k n)))
-        (λ v j. let (x, t) = keep-in (λ v. upTo v u) ws j in let r = ring-words (λ d. eqb d n) k n v .0 x in in-keep (λ v. upTo v u) (lyndon-words k n v .1 (long v x, r .1, r .2)) t)
+        (λ v j. let (x, t) = keep-in (λ v. upTo v u) ws j in let r = ring-words (whole n) k n v .0 x in in-keep (λ v. upTo v u) (lyndon-words k n v .1 (long v x, r .1, r .2)) t)
         (λ v j. let (x, t) = keep-in (λ v. upTo v u) (lyndons k n) j in let (e, m, l) = lyndon-words k n v .0 x in
-        in-keep (λ v. upTo v u) (ring-words (λ d. eqb d n) k n v .1 (omega arith, m, l, eq-eqb (length v) n e)) t)
+        in-keep (λ v. upTo v u) (ring-words (whole n) k n v .1 (omega arith, m, l, eq-eqb (length v) n e)) t)

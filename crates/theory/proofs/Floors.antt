@@ -16,7 +16,7 @@ use Rattle.theory.specs.Floors.{isNecklace, lastOf, necklaceUpTo, neckla
 use Rattle.theory.specs.Theorems.{Floors}
 use Rattle.theory.specs.Prenecklaces.{Cut, differ, Prenecklace}
 use Rattle.theory.proofs.Base.{test, and-l, and-r, and-in, less, equal, more, cmp, Split, upto, over, split, split-same, levi, longer, shorter}
-use Rattle.theory.proofs.Order.{Le, empty, further, sooner, same-eq, eq-same, ne-same, below-lt, lt-below, upTo-le, le-upTo, lt-le, le-refl, le-trans, le-antisym, not-lt, eq-le, le-prefix, lt-cut, cut-lt, cut-at-letter, decided, decide}
+use Rattle.theory.proofs.Order.{Le, Prefix, prefix, empty, further, sooner, same-eq, eq-same, ne-same, below-lt, lt-below, upTo-le, le-upTo, lt-le, le-refl, le-trans, le-antisym, not-lt, eq-le, le-prefix, lt-cut, cut-lt, cut-at-letter, decided, decide}
 use Rattle.theory.proofs.Lists.{keep-in, in-keep, keep-ascend, in-nil}
 use Rattle.theory.proofs.Counts.{keep-same}
 use Rattle.theory.proofs.Letters.{marks-left, marks-right, marks-head, marks-tail, marks-append, marks-cons, marks-replicate, marks-letter}
@@ -55,6 +55,12 @@ zeros-necklace n u v e = eq-le (e ∙ swap)
 pub zeros-le : (w : List ℕ) → Le (replicate (length w) 0) w
 zeros-le [] = empty
 zeros-le (a ∷ w) = elim (cmp 0 a) [ less l ↦ sooner l | equal l ↦ subst (λ r. Le (0 ∷ replicate (length w) 0) (r ∷ w)) l (further (zeros-le w)) | more l ↦ absurd (omega arith) ]
+
+-- what begins with γ is not below γ 0 .. 0
+pub zeros-least : (γ : List ℕ) (r : ℕ) {v : List ℕ} → length v ≡ length γ + r → Prefix γ v → Le (γ ++ replicate r 0) v
+zeros-least γ r {v} e (prefix t f) =
+    let long : length t ≡ r = omega (arith, ap length f, length-append γ t) in
+    subst (λ x. Le (γ ++ replicate r 0) x) (sym f) (le-prefix γ (subst (λ x. Le (replicate x 0) t) long (zeros-le t)))
 
 -- the last of an ascending list is its largest
 last-in : (ws : List (List ℕ)) {x : List ℕ} → In x ws → In (lastOf ws) ws

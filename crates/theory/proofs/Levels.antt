@@ -38,6 +38,9 @@ rank-top k n =
     ap (λ m. length (keep (λ x. upTo x (replicate n (k - 1))) (lyndons k m))) (length-replicate n (k - 1))
     ∙ upTo-all (λ x. x) (lyndons k n) (ascend-once (lyndons k n) (lyndon-ascend k n)) (λ x i. let r = lyndon-words k n x .0 i in top-le k n x (r .0) (r .1))
 
+pub rank-most : (k : ℕ) (w : List ℕ) → rank k w ≤ howMany k (length w)
+rank-most k w = keep-length (λ x. upTo x w) (lyndons k (length w))
+
 pub cs-top : (k n : ℕ) → cs k (replicate n (k - 1)) ≡ k ^ n
 cs-top k n =
     ap (λ m. length (keep (λ x. upTo (smallest x) (replicate n (k - 1))) (allWords k m))) (length-replicate n (k - 1))

@@ -50,6 +50,8 @@ pub mod Downwards
 pub mod Search
 pub mod Positions
 pub mod Locating
+pub mod Shorts
+pub mod ShortPlaces
 pub mod Digits
 pub mod Marked
 pub mod Theorems

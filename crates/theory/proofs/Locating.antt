@@ -16,7 +16,7 @@ use Rattle.theory.specs.Strips.{strip, stripWords, placeOf, divisorOf}
 use Rattle.theory.specs.Sums.{cs}
 use Rattle.theory.specs.Floors.{necklaceBelow}
 use Rattle.theory.proofs.Base.{upto, over, split}
-use Rattle.theory.proofs.Order.{Lt, now, later, Le, Prefix, prefix, lt-below, below-lt, lt-le, le-cases, le-lt-trans, lt-le-trans, le-not-lt, not-lt, eq-le, le-prefix}
+use Rattle.theory.proofs.Order.{Lt, now, later, Le, Prefix, prefix, lt-below, below-lt, lt-le, le-cases, le-lt-trans, lt-le-trans, le-not-lt, not-lt, eq-le}
 use Rattle.theory.proofs.Lists.{found, in-split, in-nil, in-append-left, in-append-right, in-append-cases, ascend-before}
 use Rattle.theory.proofs.Letters.{marks-left, marks-right, marks-append, marks-cons, marks-replicate}
 use Rattle.theory.proofs.Lyndon.{Lyndon, lyndon-out, one-letter}
@@ -25,15 +25,15 @@ use Rattle.theory.proofs.Necklaces.{base, base-of, smallest-rot, smalle
 use Rattle.theory.proofs.Listed.{strip-words, ring-ascend}
 use Rattle.theory.proofs.Tops.{one-less, no-higher, replicate-mid, replicate-left, replicate-split, repeated-letter, low, lyndon-low}
 use Rattle.theory.proofs.Joined.{before-is, joined-both}
-use Rattle.theory.proofs.Reading.{modulo-small, modulo-add}
+use Rattle.theory.proofs.Reading.{round-once}
 use Rattle.theory.proofs.Rotations.{Fits, power-is, power-length, power-least, powers-lt, powers-lt-out}
 use Rattle.theory.proofs.Seams.{Setting, squeeze}
 use Rattle.theory.proofs.Seams as seams
 use Rattle.theory.proofs.Windows as windows
 use Rattle.theory.proofs.Places as places
 use Rattle.theory.proofs.Rings.{rings, strip-long, place-is}
-use Rattle.theory.proofs.Divisors.{times, divides-in, divisors-allowed, divides-some}
-use Rattle.theory.proofs.Floors.{Passes, last-passes, last-above, smallest-own, zeros-necklace, zeros-le}
+use Rattle.theory.proofs.Divisors.{divides-one, divisors-allowed, divides-some}
+use Rattle.theory.proofs.Floors.{Passes, last-passes, last-above, smallest-own, zeros-necklace, zeros-le, zeros-least}
 use Rattle.theory.proofs.Ends.{strip-ends}
 use Rattle.theory.proofs.Positions.{strip-of}
 
@@ -101,15 +101,6 @@ pub record Start-place (k n : ℕ) (w : List ℕ) (r : ℕ) (g : List ℕ) : Typ
   pub turn-inside : r < root (necklaceBelow k g)
   pub place : placeOf k n w + r ≡ cs k (necklaceBelow k g)
 
--- belongs to Reading: a position that lies at most one round ahead of x
-round-once : (p r t x : ℕ) → p < t → r ≤ t → modulo (p + r) t ≡ x → (p + r ≡ x) ⊎ (p + r ≡ x + t)
-round-once p r t x h k e = elim (split t (p + r)) [ upto l ↦ inr (past l) | over l ↦ inl (sym (modulo-small (p + r) t l) ∙ e) ]
-  where
-    past : t ≤ p + r → p + r ≡ x + t
-    past l =
-        let f : p + r ≡ (p + r - t) + t = omega arith in
-        omega (arith, sym (modulo-small (p + r - t) t (omega arith)) ∙ sym (modulo-add (p + r - t) t) ∙ ap (λ y. modulo y t) (sym f) ∙ e)
-
 -- belongs to Order
 no-less : {x : List ℕ} → Lt x (0 ∷ []) → length x ≡ 0
 no-less {x = []} l = refl
@@ -117,10 +108,6 @@ no-less {x = a ∷ []} (now l) = absurd (omega arith)
 no-less {x = a ∷ []} (later l) = elim l [ ]
 no-less {x = a ∷ (b ∷ x)} (now l) = absurd (omega arith)
 no-less {x = a ∷ (b ∷ x)} (later l) = elim l [ ]
-
--- belongs to Divisors
-divides-one : (n : ℕ) → divides 1 n ≡ true
-divides-one n = divides-in {d = 1} {n = n} (omega arith) (times n (omega arith))
 
 -- belongs to Rotations: the power of one letter
 letter-power : (n a : ℕ) → powerTo n (a ∷ []) ≡ replicate n a
@@ -230,9 +217,7 @@ module _ (z n : ℕ) (h : 0 < z) (s : 0 < n) where
     above-v {x} k l = not-lt (λ q. le-not-lt (last-above (λ u. below u g) (suc z) g (record { long = power-length (k .fit) ∙ sym long-g; marks = seams.power-marks R k; necklace = power-least (k .fit); pass = lt-below q })) l)
 
     from-γ : {y : List ℕ} → length y ≡ n → Prefix γ y → Le g y
-    from-γ {y} e (prefix t f) =
-        let long : length t ≡ r = omega (arith, ap length f, length-append γ t) in
-        subst (λ x. Le g x) (sym f) (le-prefix γ (subst (λ x. Le (replicate x 0) t) long (zeros-le t)))
+    from-γ e q = zeros-least γ r (omega arith) q
 
     -- the word of the smallest rotation, γ z .. z
     base-word : Root-word (suc z) n (smallest w)

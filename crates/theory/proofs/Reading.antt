@@ -2,7 +2,7 @@
 use mathlib.Core.Path.{_≡_, refl, sym, _∙_, ap, ap₂, subst}
 use mathlib.Core.Bool.{true, false}
 use mathlib.Core.List.{List, _∷_, _++_, append-assoc}
-use mathlib.Core.Logic.{inl, inr}
+use mathlib.Core.Logic.{_⊎_, inl, inr}
 use Prim.Native.Nat.{ℕ, zero, suc, _+_, _-_, _%_, _≤_, _<_}
 use native.Mathlib.Omega.{arith}
 use native.Mathlib.Nat.{mod-lt, mod-eq-of-lt, mod-self, mod-mod, mod-add-mod, suc-mod, add-mod-right, add-comm, add-zero, add-suc, zero-add, suc-add}
@@ -45,6 +45,15 @@ modulo-suc p (suc m) = suc-mod p (suc m)
 pub modulo-plus : (p g m : ℕ) → modulo (p + g) m ≡ modulo (modulo p m + g) m
 modulo-plus p g zero = refl
 modulo-plus p g (suc m) = sym (mod-add-mod p (suc m) g)
+
+-- a position that lies at most one round ahead of x
+pub round-once : (p r t x : ℕ) → p < t → r ≤ t → modulo (p + r) t ≡ x → (p + r ≡ x) ⊎ (p + r ≡ x + t)
+round-once p r t x h k e = elim (split t (p + r)) [ upto l ↦ inr (past l) | over l ↦ inl (sym (modulo-small (p + r) t l) ∙ e) ]
+  where
+    past : t ≤ p + r → p + r ≡ x + t
+    past l =
+        let f : p + r ≡ (p + r - t) + t = omega arith in
+        omega (arith, sym (modulo-small (p + r - t) t (omega arith)) ∙ sym (modulo-add (p + r - t) t) ∙ ap (λ y. modulo y t) (sym f) ∙ e)
 
 -- the position before
 pub beside-down : (p m : ℕ) → 0 < p → p < m → beside m false p ≡ p - 1

@@ -9,11 +9,11 @@ use native.Mathlib.Nat.{suc-mul, one-le-pow}
 use lib.Dec.{leb}
 use lib.ListN.{length, take, drop, replicate, length-drop, take-append-drop}
 use lib.Seq.{length-take-le, take-append-seam}
-use borrow.Author.Tests.{leb-true, ltb-true}
+use borrow.Author.Tests.{leb-true}
 use Rattle.theory.specs.Words.{below, turned, smallest, root, marksOk, allWords, powerTo}
 use Rattle.theory.specs.Lists.{In, Ascending}
 use Rattle.theory.specs.Rings.{Allowed, divides, ringWords, ring, modulo, findOn, lettersOn, beforeW, windowOn, placeOn}
-use Rattle.theory.specs.Strips.{admitted, stripWords, strip, markAt, marksFrom, window, placeOf, divisorOf}
+use Rattle.theory.specs.Strips.{admitted, strip, marksFrom, window, placeOf, divisorOf}
 use Rattle.theory.specs.Theorems.{Ring, One-place}
 use Rattle.theory.proofs.Base.{and-l, and-r}
 use Rattle.theory.proofs.Order.{lt-below, Prefix, prefix-take, take-prefix}
@@ -104,15 +104,14 @@ pub admitted-range : (k n : ℕ) → admitted k n ≡ true → (2 ≤ k) × (1 �
 admitted-range k n h =
     (leb-true 2 k (and-l _ _ h), leb-true 1 n (and-l _ _ (and-r (leb k 36) _ (and-r (leb 2 k) _ h))))
 
--- marks read from it, as many as there may be
-pub strip-marks : (k n p c : ℕ) → 2 ≤ k → 1 ≤ n → marksOk k (marksFrom k n p c) ≡ true
-strip-marks k n p c h s =
-    let long = strip-long k n h s in
-    subst (λ x. marksOk k (lettersOn x (strip k n) p c) ≡ true) long
-    (letters-marks k (strip k n) p c (omega (arith, long, one-le-pow n k (omega arith))) (marks-joined k (stripWords k n) (λ w i. ring-words (divisorOf n) k n w .0 i .1)))
+-- letters read from a ring of so many positions, as many as there may be
+pub ring-marks : (ok : ℕ → Bool) (k n size p c : ℕ) → length (ring ok k n) ≡ size → 1 ≤ size → marksOk k (lettersOn size (ring ok k n) p c) ≡ true
+ring-marks ok k n size p c long some =
+    subst (λ x. marksOk k (lettersOn x (ring ok k n) p c) ≡ true) long
+    (letters-marks k (ring ok k n) p c (omega (arith, long)) (marks-joined k (ringWords ok k n) (λ w i. ring-words ok k n w .0 i .1)))
 
-pub mark-below : (k n p : ℕ) → 2 ≤ k → 1 ≤ n → markAt k n p < k
-mark-below k n p h s = ltb-true (markAt k n p) k (and-l _ _ (strip-marks k n p 1 h s))
+pub strip-marks : (k n p c : ℕ) → 2 ≤ k → 1 ≤ n → marksOk k (marksFrom k n p c) ≡ true
+strip-marks k n p c h s = ring-marks (divisorOf n) k n (k ^ n) p c (strip-long k n h s) (one-le-pow n k (omega arith))
 
 pub place-is : (k n : ℕ) (w : List ℕ) → 2 ≤ k → 1 ≤ n → placeOn (divisorOf n) k n w ≡ placeOf k n w
 place-is k n w h s = ap (λ x. findOn x 0 x (strip k n) n w) (strip-long k n h s)

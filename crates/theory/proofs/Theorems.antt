@@ -10,6 +10,7 @@ use Rattle.theory.proofs.Rings.{rings, one-place}
 use Rattle.theory.proofs.Cursors.{ring-cursors}
 use Rattle.theory.proofs.Back.{both-ways}
 use Rattle.theory.proofs.Strips.{cursors}
+use Rattle.theory.proofs.Shorts.{short-ring, short-cursors}
 use Rattle.theory.proofs.Records.{records}
 use Rattle.theory.proofs.Laying.{laid, laid-across, laid-where, laid-each, laid-only, laid-at}
 use Rattle.theory.proofs.Erasures.{smudged}
@@ -35,6 +36,8 @@ theorems =
       both-ways = both-ways;
       one-place = one-place;
       cursors = cursors;
+      short-ring = short-ring;
+      short-cursors = short-cursors;
       records = records;
       laid = laid;
       laid-across = laid-across;

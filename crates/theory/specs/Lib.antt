@@ -9,6 +9,7 @@ pub mod Search
 pub mod Rings
 pub mod Steps
 pub mod Strips
+pub mod Shorts
 pub mod Plans
 pub mod Erasures
 pub mod Substitutions

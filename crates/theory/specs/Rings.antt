@@ -156,6 +156,19 @@ backOn ok c =
     (let v = previousOn ok c in
     record { mark = m; passed = passedDown (c .k) (c .n) (c .word) v; cursor-is = cursor (c .k) (c .n) v (length v - 1) })
 
+-- the same where the allowed lengths are given for each n, and a cursor's own n says which
+abbrev pub goodIn : (ℕ → ℕ → Bool) → Cursor → Bool
+goodIn ok c = goodOn (ok (c .n)) c
+
+abbrev pub positionIn : (ℕ → ℕ → Bool) → Cursor → ℕ
+positionIn ok c = positionOn (ok (c .n)) c
+
+abbrev pub stepIn : (ℕ → ℕ → Bool) → Cursor → Stepped
+stepIn ok c = stepOn (ok (c .n)) c
+
+abbrev pub backIn : (ℕ → ℕ → Bool) → Cursor → Stepped
+backIn ok c = backOn (ok (c .n)) c
+
 -- the letters that the next steps of a cursor give
 abbrev pub readOn : (ℕ → Bool) → Cursor → ℕ → List ℕ
 readOn ok c zero = []

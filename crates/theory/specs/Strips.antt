@@ -6,7 +6,7 @@ use mathlib.Core.List.{List}
 use Prim.Native.Nat.{ℕ, _^_}
 use lib.Dec.{leb}
 use Rattle.theory.specs.Words.{when}
-use Rattle.theory.specs.Rings.{divides, ringWords, ring, letterOn, lettersOn, findOn, Cursor, Stepped, goodOn, positionOn, cursorOn, nextOn, previousOn, stepOn, backOn}
+use Rattle.theory.specs.Rings.{divides, ringWords, ring, letterOn, lettersOn, findOn, Cursor, Stepped, goodIn, positionIn, cursorOn, stepIn, backIn}
 
 -- admitted: k from 2 to 36, n from 1 to 60, k^n at most 2^60
 abbrev pub admitted : ℕ → ℕ → Bool
@@ -41,22 +41,16 @@ placeOf k n w = findOn (k ^ n) 0 (k ^ n) (strip k n) n w
 
 -- the strip's cursors
 abbrev pub cursorOk : Cursor → Bool
-cursorOk c = goodOn (divisorOf (c .n)) c
+cursorOk c = goodIn divisorOf c
 
 abbrev pub placeIn : Cursor → ℕ
-placeIn c = positionOn (divisorOf (c .n)) c
+placeIn c = positionIn divisorOf c
 
 abbrev pub cursorAt : ℕ → ℕ → ℕ → Cursor
 cursorAt k n p = cursorOn (divisorOf n) k n p
 
-abbrev pub nextWord : Cursor → List ℕ
-nextWord c = nextOn (divisorOf (c .n)) c
-
 abbrev pub stepOf : Cursor → Stepped
-stepOf c = stepOn (divisorOf (c .n)) c
-
-abbrev pub previousWord : Cursor → List ℕ
-previousWord c = previousOn (divisorOf (c .n)) c
+stepOf c = stepIn divisorOf c
 
 abbrev pub backOf : Cursor → Stepped
-backOf c = backOn (divisorOf (c .n)) c
+backOf c = backIn divisorOf c

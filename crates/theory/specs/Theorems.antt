@@ -3,7 +3,7 @@ use mathlib.Core.Path.{_≡_}
 use mathlib.Core.Bool.{Bool, true, false, _&&_}
 use mathlib.Core.List.{List, [], _∷_, _++_, reverse}
 use mathlib.Core.Logic.{_⊎_, _↔_, _≢_}
-use Prim.Native.Nat.{ℕ, suc, _+_, _-_, _*_, _^_, _≤_, _<_}
+use Prim.Native.Nat.{ℕ, suc, _+_, _-_, _*_, _/_, _%_, _^_, _≤_, _<_}
 use lib.IntN.{ℤ, pos, natAbs}
 use lib.Dec.{eqb, ltb, leb}
 use lib.ListN.{length, getD, take, drop, replicate}
@@ -13,9 +13,10 @@ use Rattle.theory.specs.Sums.{cs, mobius, divisors, divisorsDown, runnin
 use Rattle.theory.specs.Floors.{isNecklace, necklaceUpTo, necklaceBelow, floorFrom}
 use Rattle.theory.specs.Automaton.{run, returning, pathsTo}
 use Rattle.theory.specs.Search.{leastWord}
-use Rattle.theory.specs.Rings.{upWords, lyndonsUp, divides, Allowed, ringWords, ring, modulo, letterOn, lettersOn, Cursor, Stepped, goodOn, beforeW, positionOn, cursorOn, passedBy, passedTo, passedDown, stepOn, backOn, readOn, beside, pathEnd, pathLetters, walkEnd, walkLetters, windowOn, placeOn}
+use Rattle.theory.specs.Rings.{upWords, lyndonsUp, divides, Allowed, ringWords, ring, modulo, letterOn, lettersOn, Cursor, cursor, Stepped, goodOn, goodIn, beforeW, positionOn, positionIn, cursorOn, passedBy, passedTo, passedDown, stepOn, stepIn, backOn, backIn, readOn, beside, pathEnd, pathLetters, walkEnd, walkLetters, windowOn, placeOn}
 use Rattle.theory.specs.Steps.{extension, nextLyndon, previousLyndon, period}
-use Rattle.theory.specs.Strips.{admitted, stripWords, strip, markAt, marksFrom, window, placeOf, cursorOk, placeIn, cursorAt, stepOf, backOf}
+use Rattle.theory.specs.Strips.{admitted, divisorOf, stripWords, strip, window, placeOf, cursorAt}
+use Rattle.theory.specs.Shorts.{whole, shortWords, shortRing, shortSize, shortWindow, shortPlaceOf, shortCursorAt}
 use Rattle.theory.specs.Plans.{Section, be, endOf, planFault, sectionCount, shades, marks, entrySize, sections, torn, tornBefore, welded, nthS, railOf, layingAt, laidAt, distanceAt, lookupFault, layingOf, distanceOf}
 use Rattle.theory.specs.Erasures.{unread, read, agrees, fitting, lowest, filling, smudgeFault, smudgedFault}
 use Rattle.theory.specs.Substitutions.{Change, changed, changes, newPlace, misread, keyOf}
@@ -174,22 +175,35 @@ pub record One-place : Type 0 where
       → (placeOf k n w < k ^ n) × (window k n (placeOf k n w) ≡ w)
   pub only : (k n p : ℕ) (w : List ℕ) → 2 ≤ k → 1 ≤ n → p < k ^ n → window k n p ≡ w → placeOf k n w ≡ p
 
--- The strip's cursors.
-pub record Cursors : Type 0 where
-  pub there : (k n p : ℕ) → 2 ≤ k → 1 ≤ n → p < k ^ n → (cursorOk (cursorAt k n p) ≡ true) × (placeIn (cursorAt k n p) ≡ p)
-  pub within : (c : Cursor) → 2 ≤ c .k → 1 ≤ c .n → cursorOk c ≡ true → placeIn c < c .k ^ c .n
-  pub one : (c : Cursor) → 2 ≤ c .k → 1 ≤ c .n → cursorOk c ≡ true → cursorAt (c .k) (c .n) (placeIn c) ≡ c
-  pub onward : (c : Cursor) → 2 ≤ c .k → 1 ≤ c .n → cursorOk c ≡ true
-      → let p = placeIn c in
-      Leads cursorOk placeIn (stepOf c) (markAt (c .k) (c .n) p) (modulo (suc p) (c .k ^ c .n)) (passedTo (c .k) (c .n) (c .word)) (c .n)
-  pub backward : (c : Cursor) → 2 ≤ c .k → 1 ≤ c .n → cursorOk c ≡ true
-      → let p = placeIn c in
-      Leads cursorOk placeIn (backOf c) (markAt (c .k) (c .n) p) (beside (c .k ^ c .n) false p) (passedDown (c .k) (c .n) (c .word)) (c .n)
+-- The cursors of rings of so many positions, where ok has the allowed lengths for each n: the strip's, and the short ring's.
+pub record Cursors (ok : ℕ → ℕ → Bool) (size : ℕ → ℕ → ℕ) : Type 0 where
+  pub there : (k n p : ℕ) → 2 ≤ k → 1 ≤ n → p < size k n
+      → let c = cursorOn (ok n) k n p in (goodIn ok c ≡ true) × (positionIn ok c ≡ p)
+  pub within : (c : Cursor) → 2 ≤ c .k → 1 ≤ c .n → goodIn ok c ≡ true → positionIn ok c < size (c .k) (c .n)
+  pub one : (c : Cursor) → 2 ≤ c .k → 1 ≤ c .n → goodIn ok c ≡ true → cursorOn (ok (c .n)) (c .k) (c .n) (positionIn ok c) ≡ c
+  pub onward : (c : Cursor) → 2 ≤ c .k → 1 ≤ c .n → goodIn ok c ≡ true
+      → let p = positionIn ok c in
+      let t = size (c .k) (c .n) in
+      Leads (goodIn ok) (positionIn ok) (stepIn ok c) (letterOn t (ring (ok (c .n)) (c .k) (c .n)) p) (modulo (suc p) t) (passedTo (c .k) (c .n) (c .word)) (c .n)
+  pub backward : (c : Cursor) → 2 ≤ c .k → 1 ≤ c .n → goodIn ok c ≡ true
+      → let p = positionIn ok c in
+      let t = size (c .k) (c .n) in
+      Leads (goodIn ok) (positionIn ok) (backIn ok c) (letterOn t (ring (ok (c .n)) (c .k) (c .n)) p) (beside t false p) (passedDown (c .k) (c .n) (c .word)) (c .n)
   -- there and back
-  pub back-step : (c : Cursor) → 2 ≤ c .k → 1 ≤ c .n → cursorOk c ≡ true → backOf (stepOf c .cursor-is) .cursor-is ≡ c
-  pub step-back : (c : Cursor) → 2 ≤ c .k → 1 ≤ c .n → cursorOk c ≡ true → stepOf (backOf c .cursor-is) .cursor-is ≡ c
-  pub as-many : (c : Cursor) → 2 ≤ c .k → 1 ≤ c .n → cursorOk c ≡ true → stepOf (backOf c .cursor-is) .passed ≡ backOf c .passed
-  pub reads : (k n p c : ℕ) → 2 ≤ k → 1 ≤ n → p < k ^ n → readOn (λ d. divides d n) (cursorAt k n p) c ≡ marksFrom k n p c
+  pub back-step : (c : Cursor) → 2 ≤ c .k → 1 ≤ c .n → goodIn ok c ≡ true → backIn ok (stepIn ok c .cursor-is) .cursor-is ≡ c
+  pub step-back : (c : Cursor) → 2 ≤ c .k → 1 ≤ c .n → goodIn ok c ≡ true → stepIn ok (backIn ok c .cursor-is) .cursor-is ≡ c
+  pub as-many : (c : Cursor) → 2 ≤ c .k → 1 ≤ c .n → goodIn ok c ≡ true → stepIn ok (backIn ok c .cursor-is) .passed ≡ backIn ok c .passed
+  pub reads : (k n p c : ℕ) → 2 ≤ k → 1 ≤ n → p < size k n → readOn (ok n) (cursorOn (ok n) k n p) c ≡ lettersOn (size k n) (ring (ok n) k n) p c
+
+-- The short ring: how many places it has; every window that is not a shorter word repeated is read at exactly one of them, and no other window is read.
+pub record Short-ring (k n : ℕ) : Type 0 where
+  pub long : length (shortRing k n) ≡ shortSize k n
+  pub least : n ≤ shortSize k n
+  pub most : shortSize k n ≤ k ^ n
+  pub found : (w : List ℕ) → length w ≡ n → marksOk k w ≡ true → root w ≡ n → (shortPlaceOf k n w < shortSize k n) × (shortWindow k n (shortPlaceOf k n w) ≡ w)
+  pub only : (p : ℕ) (w : List ℕ) → p < shortSize k n → shortWindow k n p ≡ w → (shortPlaceOf k n w ≡ p) × (root w ≡ n)
+  -- the word that holds a place, by its index
+  pub at-place : (p : ℕ) → p < shortSize k n → shortCursorAt k n p ≡ cursor k n (wordOf k n (suc (p / n))) (p % n)
 
 -- Two plans with the same strip and the same sections, whatever their rails; one may be an old record and the other a new one.
 pub record Alike (s r : List ℕ) : Type 0 where
@@ -386,8 +400,8 @@ Strip-ends = (k n : ℕ) (u : List ℕ) → 1 ≤ n → In u (stripWords k n) �
 
 abbrev pub Short-ends : Type 0
 Short-ends =
-    (k n : ℕ) (u : List ℕ) → 1 ≤ n → In u (ringWords (λ d. eqb d n) k n)
-    → beforeW u (ringWords (λ d. eqb d n) k n) + length u ≡ n * rank k u
+    (k n : ℕ) (u : List ℕ) → 1 ≤ n → In u (shortWords k n)
+    → beforeW u (shortWords k n) + length u ≡ n * rank k u
 
 -- The automaton (document 004, section 4): x is in CS(w) just when x x is accepted (Facts 11 and 12); the numbers of its paths by a
 -- recurrence; and from one table of these the size of CS of every prefix.
@@ -426,7 +440,9 @@ pub record Theorems : Type 0 where
   pub ring-cursors : (ok : ℕ → Bool) (k n : ℕ) → 2 ≤ k → 1 ≤ n → Allowed n ok → Cursors-on ok k n
   pub both-ways : (ok : ℕ → Bool) (k n : ℕ) → 2 ≤ k → 1 ≤ n → Allowed n ok → Both-ways ok k n
   pub one-place : One-place
-  pub cursors : Cursors
+  pub cursors : Cursors divisorOf _^_
+  pub short-ring : (k n : ℕ) → 2 ≤ k → 1 ≤ n → Short-ring k n
+  pub short-cursors : Cursors whole shortSize
   pub records : Records
   pub laid : Laid
   pub laid-across : Laid-across

@@ -1,46 +1,45 @@
--- `access::holder` finds the word that holds a position.
-use mathlib.Core.Path.{refl, ap₂}
-use Prim.Native.Nat.{_+_, _-_}
-use native.Mathlib.Omega.{arith}
+-- `access::holder` finds the word of a ring that holds a position.
+use mathlib.Core.Path.{sym, subst}
+use Prim.Native.Nat.{_<_}
 use borrow.Author.Needs.{needs}
-use Rattle.access.proofs.Holding.{holder-asks, holder-fits, holder-is}
+use Rattle.shape.specs.Rings.{sizeIn}
+use Rattle.access.specs.Holders.{HoldsAt}
 use Rattle.access.proofs.holder.Statement.{statement}
 use Rattle.access.proofs.holder.Tie as tie
 
-find-requires : tie.Need-find-requires
-find-requires c κs = search needs
+enum-told : tie.Need-enum-told
+enum-told c = search needs
 
-slice-aggregate-whole : tie.Need-slice-aggregate-whole
-slice-aggregate-whole c = search needs
+strip-holder-requires : tie.Need-strip-holder-requires
+strip-holder-requires c κs =
+    let f = c .before .before .before .before in
+    (f .pre .0, subst (λ x. f .args .p < sizeIn x (f .args .s)) (c .before .enum-told .given .1) (f .pre .1), f .pre .2)
 
-whole-requires : tie.Need-whole-requires
-whole-requires c κs =
-    let f = c .before .before .before .before .before .before .before in
-    let (counted, pre, top) = holder-asks (f .args .p) (f .pre .0) (f .pre .1) (c .before .before .before .before .find .ensures) in
-    (counted, pre, top, refl)
+enum-told-2 : tie.Need-enum-told-2
+enum-told-2 c = search needs
 
-shortest-root-requires : tie.Need-shortest-root-requires
-shortest-root-requires c κs = search needs
-
-add-at : tie.Need-add-at
-add-at c =
-    let f = c .before .before .before .before .before .before .before .before .before .before .before in
-    let fits = holder-fits (f .args .p) (f .pre .0) (f .pre .1) (c .before .before .before .before .before .before .before .before .find .ensures) in
-    omega (arith, fits, c .shortest-root .ensures)
-
-sub-at : tie.Need-sub-at
-sub-at c =
-    let f = c .before .before .before .before .before .before .before .before .before .before .before in
-    let fits = holder-fits (f .args .p) (f .pre .0) (f .pre .1) (c .before .before .before .before .before .before .before .before .find .ensures) in
-    omega (arith, fits, c .shortest-root .ensures, c .before .before .before .whole .ensures .0)
+short-holder-requires : tie.Need-short-holder-requires
+short-holder-requires c κs =
+    let f = c .before .before .before .before in
+    (f .pre .0, subst (λ x. f .args .p < sizeIn x (f .args .s)) (c .before .enum-told2 .given .1) (f .pre .1), f .pre .2)
 
 same-length : tie.Need-same-length
 same-length c = search needs
 
 returns : tie.Need-returns
 returns c =
-    let f = c .before .before .before .before .before .before .before .before .before .before .before in
-    holder-is (f .args .p) (f .pre .0) (f .pre .1) (c .before .before .before .before .before .before .before .before .find .ensures) (c .shortest-root .ensures) (ap₂ (λ x y. f .args .p + x - y) (c .shortest-root .ensures) (c .before .before .before .whole .ensures .0))
+    let found = c .before .before in
+    let f = found .before .before .before .before .before in
+    subst (λ x. HoldsAt x (f .args .s) (f .args .p) (found .strip-holder .last .1 .1 .0) (found .strip-holder .result)) (sym (found .before .before .enum-told .given .1)) (found .strip-holder .ensures)
+
+same-length-2 : tie.Need-same-length-2
+same-length-2 c = search needs
+
+returns-2 : tie.Need-returns-2
+returns-2 c =
+    let found = c .before .before in
+    let f = found .before .before .before .before .before in
+    subst (λ x. HoldsAt x (f .args .s) (f .args .p) (found .short-holder .last .1 .1 .0) (found .short-holder .result)) (sym (found .before .before .enum-told2 .given .1)) (found .short-holder .ensures)
 
 pub holder-spec : {M : Type 1} → statement M
-holder-spec = tie.close (tie.spec find-requires slice-aggregate-whole whole-requires shortest-root-requires add-at sub-at same-length returns)
+holder-spec = tie.close (tie.spec enum-told strip-holder-requires enum-told-2 short-holder-requires same-length returns same-length-2 returns-2)

@@ -3,7 +3,7 @@ use mathlib.Core.Path.{sym, _∙_, ap}
 use native.Mathlib.Omega.{arith}
 use lib.ListN.{length}
 use borrow.Author.Needs.{needs}
-use Rattle.theory.specs.Strips.{marksFrom}
+use Rattle.shape.specs.Rings.{lettersOf}
 use Rattle.shape.proofs.Limits.{limits}
 use Rattle.access.proofs.Reading.{in-room, held-place}
 use Rattle.access.proofs.letters.Statement.{statement}
@@ -27,7 +27,7 @@ same-length c = search needs
 returns : tie.Need-returns
 returns c =
     let f = c .before .before .before .before .before .before .before .before .before .before .before in
-    c .before .before .before .write-from .ensures .0 ∙ ap (λ p. marksFrom (f .args .s .k) (f .args .s .n) p (length (f .args .out .now))) (held-place (f .args .p) (f .pre .0) (f .pre .1) (c .before .before .before .before .before .before .before .holder .ensures))
+    c .before .before .before .write-from .ensures .0 ∙ ap (λ p. lettersOf (f .args .lengths) (f .args .s .k) (f .args .s .n) p (length (f .args .out .now))) (held-place (f .args .p) (f .pre .0) (f .pre .1) (c .before .before .before .before .before .before .before .holder .ensures))
 
 pub letters-spec : {M : Type 1} → statement M
 letters-spec = tie.close (tie.spec array-borrow-prefix-room slice-aggregate-v holder-requires write-from-requires same-length returns)

@@ -1,6 +1,4 @@
 -- `access::position` is the place of a letter of a held word.
-use mathlib.Core.Path.{refl}
-use Prim.Native.Nat.{_-_}
 use native.Mathlib.Omega.{arith}
 use borrow.Author.Needs.{needs}
 use Rattle.rings.proofs.Moving.{held-fits}
@@ -11,17 +9,13 @@ use Rattle.access.proofs.position.Tie as tie
 extend-requires : tie.Need-extend-requires
 extend-requires c κs = let f = c .before .before in (omega (arith, f .pre .1), held-fits (f .pre .0))
 
-slice-aggregate-whole : tie.Need-slice-aggregate-whole
-slice-aggregate-whole c = search needs
-
-whole-requires : tie.Need-whole-requires
-whole-requires c κs =
-    let f = c .before .before .before .before .before .before .before in
-    let (counted, pre, top) = ending-asks (f .pre .0) (c .before .before .before .before .extend .ensures) in
-    (counted, pre, top, refl)
+end-of-requires : tie.Need-end-of-requires
+end-of-requires c κs = ending-asks (c .before .before .before .before .before .before .pre .0) (c .before .before .before .extend .ensures)
 
 sub-result : tie.Need-sub-result
-sub-result c = let f = c .before .before .before .before .before .before .before .before .before in omega (arith, ends-at (f .pre .0) (c .before .before .before .before .before .before .extend .ensures) (c .before .whole .ensures .0))
+sub-result c =
+    let f = c .before .before .before .before .before .before .before in
+    omega (arith, ends-at (f .pre .0) (c .before .before .before .before .extend .ensures) (c .end-of .ensures))
 
 add-result : tie.Need-add-result
 add-result c = search needs
@@ -31,10 +25,9 @@ same-length c = search needs
 
 returns : tie.Need-returns
 returns c =
-    let f = c .before .before .before .before .before .before .before .before .before in
-    let a = f .args in
-    let extended = c .before .before .before .before .before .before .extend .ensures in
-    (omega (arith, ends-at (f .pre .0) extended (c .before .whole .ensures .0)), extended)
+    let f = c .before .before .before .before .before .before .before in
+    let extended = c .before .before .before .before .extend .ensures in
+    (omega (arith, ends-at (f .pre .0) extended (c .end-of .ensures)), extended)
 
 pub position-spec : {M : Type 1} → statement M
-position-spec = tie.close (tie.spec extend-requires slice-aggregate-whole whole-requires sub-result add-result same-length returns)
+position-spec = tie.close (tie.spec extend-requires end-of-requires sub-result add-result same-length returns)

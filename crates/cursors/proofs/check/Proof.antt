@@ -28,22 +28,22 @@ returns c =
     let tested = c .before in
     let known = tested .before in
     let checked = known .before .before .before in
-    let a = checked .before .before .before .args .c in
-    good-it a (checked .check-strip .ensures) (known .before .strip .given .1) (sym (c .if1 .taken) ∙ tested .is-good .ensures)
+    let a = checked .before .before .before .args in
+    good-it (a .lengths) (a .c) (checked .check-strip .ensures) (known .before .strip .given .1) (sym (c .if1 .taken) ∙ tested .is-good .ensures)
 
 returns-2 : tie.Need-returns-2
 returns-2 c =
     let checked = c .before .before .before in
-    let a = checked .before .before .before .args .c in
-    no-strip a (checked .check-strip .ensures) (c .before .number .given .1)
+    let a = checked .before .before .before .args in
+    no-strip (a .lengths) (a .c) (checked .check-strip .ensures) (c .before .number .given .1)
 
 returns-3 : tie.Need-returns-3
 returns-3 c =
     let tested = c .before in
     let known = tested .before in
     let checked = known .before .before .before in
-    let a = checked .before .before .before .args .c in
-    lost-it a (checked .check-strip .ensures) (known .before .strip .given .1) (sym (c .if1 .left) ∙ tested .is-good .ensures)
+    let a = checked .before .before .before .args in
+    lost-it (a .lengths) (a .c) (checked .check-strip .ensures) (known .before .strip .given .1) (sym (c .if1 .left) ∙ tested .is-good .ensures)
 
 pub check-spec : {M : Type 1} → statement M
 check-spec =

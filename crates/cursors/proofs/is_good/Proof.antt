@@ -24,7 +24,7 @@ cast-long : tie.Need-cast-long
 cast-long c = search needs
 
 returns : tie.Need-returns
-returns c = let f = c .before .before .before in sym (too-long (f .args .c) (sixty f) (omega arith))
+returns c = let f = c .before .before .before in sym (too-long (f .args .lengths) (f .args .c) (sixty f) (omega arith))
 
 part-letters-below-start : tie.Need-part-letters-below-start
 part-letters-below-start c = search needs
@@ -59,12 +59,12 @@ returns-2 : tie.Need-returns-2
 returns-2 c =
     let told = c .before .before .before .before .before in
     let f = start (told .before .before .before .before) in
-    c .is-on .ensures ∙ sym (tidied (f .args .c) (sixty f) (omega arith) (sym (told .if2 .taken) ∙ told .before .letters-below .ensures))
+    c .is-on .ensures ∙ sym (tidied (f .args .lengths) (f .args .c) (sixty f) (omega arith) (sym (told .if2 .taken) ∙ told .before .letters-below .ensures))
 
 returns-3 : tie.Need-returns-3
 returns-3 c =
     let f = start (c .before .before .before .before) in
-    sym (untidy (f .args .c) (sixty f) (sym (c .if2 .left) ∙ c .before .letters-below .ensures))
+    sym (untidy (f .args .lengths) (f .args .c) (sixty f) (sym (c .if2 .left) ∙ c .before .letters-below .ensures))
 
 pub is-good-spec : {M : Type 1} → statement M
 is-good-spec =

@@ -10,7 +10,7 @@ use Rattle.cursors.proofs.Moving.{goes-inside, next-short, goes-onward}
 use Rattle.cursors.proofs.onward.Statement.{statement}
 use Rattle.cursors.proofs.onward.Tie as tie
 
--- the start: a word of the strip fits into the buffer, and the place is in it
+-- the start: a word of the ring fits into the buffer, and the place is in it
 fits : (f : tie.Start) → f .args .c .n ≤ length (f .args .c .word)
 fits f = held-fits (f .pre)
 
@@ -53,8 +53,8 @@ cast-next-word c = search needs
 next-word-requires : tie.Need-next-word-requires
 next-word-requires c κs = let f = behind (c .before .before .before) in held-on (f .pre)
 
-cast-t11 : tie.Need-cast-t11
-cast-t11 c =
+cast-t12 : tie.Need-cast-t12
+cast-t12 c =
     let f = behind (c .before .before .before .before .before .before) in
     omega (arith, next-short (f .pre) (c .before .before .next-word .ensures), held-short (f .pre))
 
@@ -66,4 +66,4 @@ returns-2 c =
 pub onward-spec : {M : Type 1} → statement M
 onward-spec =
     tie.close
-    (tie.spec cast-at array-read-mark add-next within-requires returns cast-marks array-borrow-prefix-word slice-aggregate-next-word cast-next-word next-word-requires cast-t11 returns-2)
+    (tie.spec cast-at array-read-mark add-next within-requires returns cast-marks array-borrow-prefix-word slice-aggregate-next-word cast-next-word next-word-requires cast-t12 returns-2)

@@ -1,4 +1,4 @@
--- `place_on` tells the place of the strip that a cursor without fault stands on.
+-- `place_on` tells the place of the ring that a cursor without fault stands on.
 use mathlib.Core.Path.{sym}
 use native.Mathlib.Omega.{arith}
 use lib.Seq.{length-take-le}

@@ -23,20 +23,20 @@ hold-requires c κs =
     let f = c .before .before in
     (f .pre .0, f .pre .1, length-take-le (f .args .s .n) room (omega (arith, limits (f .pre .0) .short)), omega arith)
 
-cast-t11 : tie.Need-cast-t11
-cast-t11 c = let f = c .before .before .before .before .before .before in omega (arith, limits (f .pre .0) .most)
-
 cast-t12 : tie.Need-cast-t12
-cast-t12 c = let f = c .before .before .before .before .before .before .before in omega (arith, limits (f .pre .0) .short)
+cast-t12 c = let f = c .before .before .before .before .before .before in omega (arith, limits (f .pre .0) .most)
+
+cast-t13 : tie.Need-cast-t13
+cast-t13 c = let f = c .before .before .before .before .before .before .before in omega (arith, limits (f .pre .0) .short)
 
 -- once the word is held, its length and the place in it are below 61
-cast-t14 : tie.Need-cast-t14
-cast-t14 c =
+cast-t15 : tie.Need-cast-t15
+cast-t15 c =
     let held = c .before .before .before .before .before in
     omega (arith, limits (held .before .before .before .pre .0) .short, held .hold .ensures .0 .fits)
 
-cast-t15 : tie.Need-cast-t15
-cast-t15 c =
+cast-t16 : tie.Need-cast-t16
+cast-t16 c =
     let held = c .before .before .before .before .before .before in
     omega (arith, limits (held .before .before .before .pre .0) .short, held .hold .ensures .0 .fits, held .hold .ensures .0 .inside)
 
@@ -48,4 +48,4 @@ returns c =
 pub start-at-spec : {M : Type 1} → statement M
 start-at-spec =
     tie.close
-    (tie.spec array-borrow-prefix-room slice-aggregate-hold slice-aggregate-hold-2 hold-requires cast-t11 cast-t12 cast-t14 cast-t15 returns)
+    (tie.spec array-borrow-prefix-room slice-aggregate-hold slice-aggregate-hold-2 hold-requires cast-t12 cast-t13 cast-t15 cast-t16 returns)

@@ -43,7 +43,7 @@ read-start c = numbers-start (c .before .before .before .before .before)
 
 -- its digits are written
 digits : (c : tie.After-put-letters) → let read = c .before .before .before .before .before in let f = read-start read in
-    Written (f .args .out .now) (f .args .at) 123 (spaced (spaced (spaced [] (f .args .i)) (f .args .section .offset)) (f .args .section .long) ++ glyphs (read .letters .last .1 .1 .0)) (c .put-letters .last .1 .0) (c .put-letters .result)
+    Written (f .args .out .now) (f .args .at) 123 (spaced (spaced (spaced [] (f .args .i)) (f .args .section .offset)) (f .args .section .long) ++ glyphs (read .letters .last .1 .1 .1 .0)) (c .put-letters .last .1 .0) (c .put-letters .result)
 digits c =
     let read = c .before .before .before .before .before in
     let f = read-start read in

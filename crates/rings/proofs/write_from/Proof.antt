@@ -1,20 +1,20 @@
--- `rings::write_from` writes the strip's letters: what is left of the word, then word after word, until the buffer is full.
+-- `rings::write_from` writes the ring's letters: what is left of the word, then word after word, until the buffer is full.
 use mathlib.Core.Path.{sym, _∙_}
 use Prim.Native.Nat.{_-_}
 use native.Mathlib.Omega.{arith}
 use lib.ListN.{length, take}
-use Rattle.theory.specs.Rings.{cursor}
-use Rattle.theory.specs.Strips.{placeIn}
+use Rattle.theory.specs.Rings.{cursor, positionIn}
+use Rattle.shape.specs.Rings.{okOf}
 use Rattle.rings.proofs.Printing.{Printing, print-starts, print-ends, print-goes-on, put-some, put-room}
 use Rattle.rings.proofs.Moving.{held-fits}
 use Rattle.rings.proofs.write_from.Statement.{statement}
 use Rattle.rings.proofs.write_from.Tie as tie
 
 abbrev Inv-loop : tie.InvT-loop
-Inv-loop s w₀ long at out₀ l₀ from₀ filled₀ w out l from filled = Printing s (placeIn (cursor (s .k) (s .n) (take long w₀) at)) out₀ w out l from filled
+Inv-loop lengths s w₀ long at out₀ l₀ from₀ filled₀ w out l from filled = Printing lengths s (positionIn (okOf lengths) (cursor (s .k) (s .n) (take long w₀) at)) out₀ w out l from filled
 
 abbrev μ-loop : tie.MeasureT-loop
-μ-loop s w₀ long at out₀ l₀ from₀ filled₀ w out l from filled = length out₀ - filled
+μ-loop lengths s w₀ long at out₀ l₀ from₀ filled₀ w out l from filled = length out₀ - filled
 
 loop-holds : tie.Need-loop-holds Inv-loop μ-loop
 loop-holds c = print-starts (c .before .before .args .at) (c .before .before .args .out .now) (c .before .before .pre .0) (c .before .before .pre .1)

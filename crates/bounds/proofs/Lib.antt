@@ -1,0 +1,2 @@
+-- A place, and its fault.
+pub mod Places
