@@ -1,14 +1,18 @@
-/* Position strips: ranks of Lyndon words, marks and places on a strip, pictures of it, places in a laying plan, misreadings there, and its bill.
+/* Position strips: ranks of Lyndon words, marks and places on a strip and on its short ring, pictures of it, places in a laying plan, misreadings there, and
+   its bill.
 
    A strip of k shades and windows of n marks joins, in dictionary order, all Lyndon words whose length divides n. It has k^n marks, at
    places 0 to k^n - 1, and goes round: after the last comes the first. Every window of n marks is read at exactly one place.
+
+   The short ring of the same k and n joins only the Lyndon words of length n. It has n times as many places as there are such words, and reads, each at
+   exactly one place, the windows that are not a shorter word repeated. The calls whose names begin with short_ are about it; all others are about the strip.
 
    Words and windows are bytes, one a mark, from 0 to k - 1. A tray is a buffer that the caller lends for the answer. Each call returns 0
    and has then put its answer over the first bytes of the tray, or it returns one of the numbers below and has written nothing. Bytes of
    a tray behind the answer are never touched. A number in a tray has its highest byte first.
 
    A call may come with any numbers and with any bytes in its slices; if several refusals apply, the first in the order
-   7, 1, 12, 8, 14, 15, 2, 11, 3, 4, 13, 5, 9, 6 is given. No call here gives 10, a lost cursor. What the caller must promise, since C cannot check
+   7, 1, 12, 8, 14, 15, 2, 11, 3, 16, 4, 13, 5, 9, 6 is given. No call here gives 10, a lost cursor. What the caller must promise, since C cannot check
    it: each pointer is valid for its length (a null pointer only with length 0), and no tray overlaps another slice. The calls keep no state
    and may run in several threads at once, each with its own trays.
 
@@ -34,7 +38,7 @@ extern "C" {
 
 /* The major number rises with a change that a host must react to, the minor number with a new call, or where a call promises more. */
 #define STRIP_VERSION_MAJOR 3
-#define STRIP_VERSION_MINOR 3
+#define STRIP_VERSION_MINOR 4
 
 /* Limits: k from 2, n from 1, and k^n at most 2^60; sections of a plan, and the bytes of its longest record. */
 #define STRIP_MOST_SHADES 36
@@ -71,7 +75,7 @@ enum {
     STRIP_NO_SUCH_STRIP = 1,        /* k, n or k^n is outside the limits */
     STRIP_WRONG_WINDOW = 2,         /* the word does not have n marks */
     STRIP_BAD_MARK = 3,             /* a mark is k or more */
-    STRIP_OFF_THE_STRIP = 4,        /* a place is k^n or more */
+    STRIP_OFF_THE_STRIP = 4,        /* a place is k^n or more, or on the short ring as many as it has or more */
     STRIP_NO_SUCH_WORD = 5,         /* an index is 0 or above the number of Lyndon words */
     STRIP_TRAY_TOO_SMALL = 6,       /* a tray is shorter than its answer */
     STRIP_TORN_PLAN = 7,            /* under 4 bytes, more than 500 sections, or a total that fits neither record */
@@ -81,7 +85,8 @@ enum {
     STRIP_TWO_SHADES_ONLY = 12,     /* a picture of a strip with more than two shades */
     STRIP_BAD_PICTURE = 13,         /* a picture's width or height is outside the limits */
     STRIP_ROLL_TOO_LONG = 14,       /* a section of a plan that is billed has more than 4,294,967,295 marks */
-    STRIP_NO_SUCH_PRICE = 15        /* a price is above 10,000,000, or a charge above 4,294,967,295 */
+    STRIP_NO_SUCH_PRICE = 15,       /* a price is above 10,000,000, or a charge above 4,294,967,295 */
+    STRIP_REPEATING_WINDOW = 16     /* a window that is a shorter word repeated, which the short ring does not read */
 };
 
 /* What a returned number means, in words. */
@@ -102,6 +107,7 @@ static inline const char *strip_meaning(unsigned number) {
     case STRIP_BAD_PICTURE: return "bad picture";
     case STRIP_ROLL_TOO_LONG: return "roll too long";
     case STRIP_NO_SUCH_PRICE: return "no such price";
+    case STRIP_REPEATING_WINDOW: return "repeating window";
     }
     return "refused";
 }
@@ -130,6 +136,29 @@ uint8_t place_of(uint64_t k, uint64_t n, const uint8_t *window, size_t window_le
 /* So many marks from a place on, round the end as often as need be, a byte each; `marks` may be 0. Tray: `marks` bytes.
    Refusals: 1, 4, 6. */
 uint8_t print_marks(uint64_t k, uint64_t n, uint64_t place, uint64_t marks, uint8_t *tray, size_t tray_len);
+
+/* The same three on the short ring, for a head that takes a repeating window for a blank rail. Its places are 0 to n * L - 1, where L is the number of
+   Lyndon words of length n, so at least n of them and at most k^n; with n = 1 it is the strip. Which k and n are admitted does not change.
+
+   Example. With 2 shades and windows of 4 the short ring joins 0001, 0011 and 0111:
+
+       uint8_t tray[STRIP_NUMBER], marks[12];
+       short_print_marks(2, 4, 0, 12, marks, sizeof marks);              leaves 0 0 0 1 0 0 1 1 0 1 1 1 in `marks`
+       short_place_of(2, 4, (const uint8_t[]){1, 1, 0, 0}, 4, tray, 8);  leaves 0 0 0 0 0 0 0 10 in the tray: it is read over the ring's end
+       short_mark_at(2, 4, 7, tray, 8);                                  leaves 0 0 0 0 0 0 0 1 in it
+       short_place_of(2, 4, (const uint8_t[]){0, 1, 0, 1}, 4, tray, 8);  returns 16
+       short_mark_at(2, 4, 12, tray, 8);                                 returns 4 */
+
+/* The mark at a place of the short ring. Tray: 8 bytes. Refusals: 1, 4, 6. */
+uint8_t short_mark_at(uint64_t k, uint64_t n, uint64_t place, uint8_t *tray, size_t tray_len);
+
+/* The one place of the short ring at which a window of n marks is read that is not a shorter word repeated. Tray: 8 bytes.
+   Refusals: 1, 2, 3, 16, 6. */
+uint8_t short_place_of(uint64_t k, uint64_t n, const uint8_t *window, size_t window_len, uint8_t *tray, size_t tray_len);
+
+/* So many marks of the short ring from a place on, round the end as often as need be, a byte each; `marks` may be 0. Tray: `marks` bytes.
+   Refusals: 1, 4, 6. */
+uint8_t short_print_marks(uint64_t k, uint64_t n, uint64_t place, uint64_t marks, uint8_t *tray, size_t tray_len);
 
 /* A picture of the strip for a printer: `width` marks from a place on, round the end as often as need be, in `height` rows that are all the same, as
    a plain PBM file. It has the line P1, the line with width and height, parted by a space, then for each row its marks as digits, in lines of
