@@ -1,13 +1,13 @@
 /* Calls the library with junk: every set of refusals that can apply together, every section looked for and every pair of a plan broken, every section
    of a bill too long, windows alone in a plan, every joint on small strips, then inputs drawn with a fixed seed. An argument says how many of these, for
    a shorter run without the small strips. Checked: the number given back, that a refusal leaves every byte as it was, that an answer leaves the bytes
-   after it, and answers by round trips, of smudged windows beside every filling, of bills by thousands of marks. Exits 1 if anything is wrong, a number is
-   never given, a call never answers, or smudged windows hardly ever fit two laid ones. */
+   after it, and answers by round trips, of smudged windows beside every filling, of bills by thousands of marks, of the short ring by its words. Exits 1 if
+   anything is wrong, a number is never given, a call never answers, or smudged windows hardly ever fit two laid ones. */
 #include "../include/strip.h"
 #include "lent.h"
 #include <limits.h>
 
-enum { TURN, RANK, WORD, MARK, PLACE, PRINT, PICTURE, LOOK, SMUDGED, MISREAD, BILL, CALLS };
+enum { TURN, RANK, WORD, MARK, PLACE, PRINT, SHORT_MARK, SHORT_PLACE, SHORT_PRINT, PICTURE, LOOK, SMUDGED, MISREAD, BILL, CALLS };
 enum { SHADES = 36, LONGEST = 60, MOST_SECTIONS = 500, NUMBER = 8, LAYING = 12, UNREAD = 255, MOST_UNREAD = 2 };
 enum { WIDEST = 60000, HIGHEST = 64, LINE = 70, CHANGE = 10 }; /* CHANGE: bytes of an entry in a list of misreadings */
 enum { HEAD = 4, PAIR = 16, RAILED = 18 }; /* bytes of a plan before the entries, of an entry in an old record, and in a new one */
@@ -17,11 +17,12 @@ enum { MOST_WORD = 96, MOST_TRAY = 1 << 18, MOST_PLAN = 9100, MOST_COUNT = 16 };
 #define MOST_ROLL ((uint64_t)4294967295) /* marks of a section that is billed */
 #define MOST_PRICE ((uint64_t)10000000)
 #define MOST_CHARGE ((uint64_t)4294967295)
-static const char *const NAMES[CALLS] = {"turn_of",    "rank_of", "word_of",         "mark_at",        "place_of", "print_marks",
-                                         "picture_of", "look_up", "look_up_smudged", "misreadings_of", "bill_of"};
+static const char *const NAMES[CALLS] = {"turn_of",       "rank_of",        "word_of",           "mark_at",    "place_of", "print_marks",
+                                         "short_mark_at", "short_place_of", "short_print_marks", "picture_of", "look_up",  "look_up_smudged",
+                                         "misreadings_of", "bill_of"};
 
 /* The order of the refusals. Those that apply are a mask with a bit for each number; what is counted by number has room for every bit. */
-#define IN_ORDER(X) X(7) X(1) X(12) X(8) X(14) X(15) X(10) X(2) X(11) X(3) X(4) X(13) X(5) X(9) X(6)
+#define IN_ORDER(X) X(7) X(1) X(12) X(8) X(14) X(15) X(10) X(2) X(11) X(3) X(16) X(4) X(13) X(5) X(9) X(6)
 #define LISTED(number) number,
 #define HAS_A_BIT(number) && (number) < BITS
 enum { BITS = sizeof(unsigned) * CHAR_BIT };
@@ -109,6 +110,13 @@ static int is_lyndon(const uint8_t *word, size_t n) {
     for (size_t turn = 1; turn < n; turn++)
         if (compare_turns(word, n, 0, turn) >= 0) return 0;
     return 1;
+}
+
+/* whether a word is a shorter one repeated: then a turn of it is the word itself */
+static int repeats(const uint8_t *word, size_t n) {
+    for (size_t turn = 1; turn < n; turn++)
+        if (compare_turns(word, n, 0, turn) == 0) return 1;
+    return 0;
 }
 
 static uint64_t number_in(const uint8_t *bytes, int length) {
@@ -275,7 +283,22 @@ static unsigned bill_faults(const struct ask *a) {
 }
 
 static int takes_a_word(int call) {
-    return call == TURN || call == RANK || call == PLACE;
+    return call == TURN || call == RANK || call == PLACE || call == SHORT_PLACE;
+}
+
+static int takes_a_place(int call) {
+    return call == MARK || call == PRINT || call == SHORT_MARK || call == SHORT_PRINT || call == PICTURE;
+}
+
+static int prints(int call) {
+    return call == PRINT || call == SHORT_PRINT;
+}
+
+/* how many places the ring has that a call is about, the short one or the strip; 0 if there is no such strip */
+static uint64_t places_for(int call, uint64_t k, uint64_t n) {
+    uint64_t places;
+    if (!admitted(k, n, &places)) return 0;
+    return call == SHORT_MARK || call == SHORT_PRINT ? n * lyndon_count(k, n) : places;
 }
 
 /* a plan and a window of it */
@@ -307,7 +330,7 @@ static size_t answer_length(const struct ask *a) {
     if (a->call == PICTURE) return picture_length(a);
     if (a->call == MISREAD) return list_length(a);
     size_t marks = a->marks > SIZE_MAX ? SIZE_MAX : (size_t)a->marks;
-    return a->call == WORD ? (size_t)a->n : a->call == PRINT ? marks : a->call == LOOK || a->call == SMUDGED ? LAYING : NUMBER;
+    return a->call == WORD ? (size_t)a->n : prints(a->call) ? marks : a->call == LOOK || a->call == SMUDGED ? LAYING : NUMBER;
 }
 
 /* the refusals that apply, 1 << number each; of a place or an index only over an admitted strip, of a tray, which is to hold so many bytes, only if
@@ -325,7 +348,8 @@ static unsigned faults_of(const struct ask *a, size_t length) {
         int good = admitted(a->k, a->n, &places);
         if (!good) faults |= 1u << 1;
         if (takes_a_word(a->call)) faults |= word_faults(a->k, a->n, a->input, a->input_length);
-        if (good && (a->call == MARK || a->call == PRINT || a->call == PICTURE) && a->number >= places) faults |= 1u << 4;
+        if (a->call == SHORT_PLACE && repeats(a->input, a->input_length)) faults |= 1u << 16;
+        if (good && takes_a_place(a->call) && a->number >= places_for(a->call, a->k, a->n)) faults |= 1u << 4;
         if (a->call == PICTURE && a->k != 2) faults |= 1u << 12;
         if (a->call == PICTURE && !is_drawable(a)) faults |= 1u << 13;
         if (good && a->call == WORD && (a->number == 0 || a->number > lyndon_count(a->k, a->n))) faults |= 1u << 5;
@@ -393,6 +417,24 @@ static int sound_print(const struct ask *a, const uint8_t *marks) {
            place_by_library(a->k, a->n, marks + a->marks - a->n) == (a->number + a->marks - a->n) % places;
 }
 
+/* whether the short ring has these marks from a place on, round the end: each of its words is found by its index */
+static int on_short_ring(const struct ask *a, uint64_t place, uint64_t count, const uint8_t *marks) {
+    uint8_t word[LONGEST];
+    uint64_t places = places_for(SHORT_MARK, a->k, a->n);
+    if (place >= places) return 0;
+    for (uint64_t i = 0; i < count; i++) {
+        uint64_t at = (place + i) % places;
+        if ((i == 0 || at % a->n == 0) && word_of(a->k, a->n, at / a->n + 1, word, a->n) != 0) return 0;
+        if (marks[i] != word[at % a->n]) return 0;
+    }
+    return 1;
+}
+
+static int sound_short_mark(const struct ask *a, uint64_t mark) {
+    uint8_t one = (uint8_t)mark;
+    return mark < a->k && on_short_ring(a, a->number, 1, &one);
+}
+
 /* the head, then lines of at most so many digits, which, read on over the lines' ends, are the printed marks in every row */
 static int sound_picture(const struct ask *a, const uint8_t *file) {
     static uint8_t marks[WIDEST];
@@ -457,6 +499,9 @@ static int sound(const struct ask *a, const uint8_t *answer, size_t length) {
     case MARK: return sound_mark(a, number_in(answer, 8));
     case PLACE: return sound_place(a, number_in(answer, 8));
     case PRINT: return sound_print(a, answer);
+    case SHORT_MARK: return sound_short_mark(a, number_in(answer, 8));
+    case SHORT_PLACE: return on_short_ring(a, number_in(answer, 8), a->n, a->input);
+    case SHORT_PRINT: return on_short_ring(a, a->number, a->marks, answer);
     case PICTURE: return sound_picture(a, answer);
     case SMUDGED: return sound_smudged(a, answer);
     case MISREAD: return sound_list(a, answer, length);
@@ -476,6 +521,9 @@ static unsigned call(const struct ask *a, const uint8_t *input, const uint8_t *p
     case MARK: return mark_at(a->k, a->n, a->number, tray->bytes, tray->length);
     case PLACE: return place_of(a->k, a->n, input, a->input_length, tray->bytes, tray->length);
     case PRINT: return print_marks(a->k, a->n, a->number, a->marks, tray->bytes, tray->length);
+    case SHORT_MARK: return short_mark_at(a->k, a->n, a->number, tray->bytes, tray->length);
+    case SHORT_PLACE: return short_place_of(a->k, a->n, input, a->input_length, tray->bytes, tray->length);
+    case SHORT_PRINT: return short_print_marks(a->k, a->n, a->number, a->marks, tray->bytes, tray->length);
     case PICTURE: return picture_of(a->k, a->n, a->number, a->marks, a->height, count->bytes, count->length, tray->bytes, tray->length);
     case SMUDGED: return look_up_smudged(plan, a->plan_length, input, a->input_length, tray->bytes, tray->length);
     case MISREAD: return misreadings_of(plan, a->plan_length, input, a->input_length, count->bytes, count->length, tray->bytes, tray->length);
@@ -558,6 +606,32 @@ static void all_pictures(struct ask a) {
     }
 }
 
+/* a place or an index, whatever is asked with it */
+static void all_calls_at(struct ask a, uint64_t number) {
+    a.number = number;
+    for (a.call = 0; a.call < CALLS; a.call++) {
+        if (a.call != WORD && (!takes_a_place(a.call) || a.call == PICTURE)) continue;
+        for (size_t m = 0; m < (prints(a.call) ? sizeof NUMBERS / sizeof *NUMBERS : 1); m++) {
+            a.marks = prints(a.call) ? NUMBERS[m] : 0;
+            try_trays(a);
+        }
+    }
+    a.marks = 0;
+    all_pictures(a);
+}
+
+/* words: of zeros, with a bad mark at its end or its start, of bad ones alone, that is no shorter one repeated, and 01 repeated, the 1 good or bad */
+enum { ALL_ZERO, BAD_LAST, BAD_FIRST, ALL_BAD, UNREPEATED, REPEATED, BAD_REPEATED, FILLINGS };
+
+static void fill_word(uint8_t *word, size_t length, uint64_t k, int filling) {
+    uint8_t bad = k > 255 ? 255 : (uint8_t)k;
+    memset(word, filling == ALL_BAD ? 255 : 0, MOST_WORD);
+    if (filling == BAD_LAST && length != 0) word[length - 1] = bad;
+    if (filling == BAD_FIRST) word[0] = 255;
+    if (filling == UNREPEATED) word[0] = 1;
+    for (size_t i = 1; i < length && filling >= REPEATED; i += 2) word[i] = filling == REPEATED ? 1 : bad;
+}
+
 static void all_sets(void) {
     uint8_t word[MOST_WORD];
     for (size_t s = 0; s < sizeof STRIPS / sizeof *STRIPS; s++) {
@@ -565,30 +639,16 @@ static void all_sets(void) {
         size_t right = a.n <= 64 ? (size_t)a.n : 4;
         size_t lengths[] = {right, right + 1, right == 0 ? 0 : right - 1, 0, 90};
         for (int l = 0; l < 5; l++)
-            for (int bad = 0; bad < 4; bad++) {
-                memset(word, 0, sizeof word);
+            for (int filling = 0; filling < FILLINGS; filling++) {
                 a.input_length = lengths[l];
-                if (bad == 1 && lengths[l] != 0) word[lengths[l] - 1] = a.k > 255 ? 255 : (uint8_t)a.k;
-                if (bad == 2) word[0] = 255;
-                if (bad == 3) memset(word, 255, sizeof word);
+                fill_word(word, lengths[l], a.k, filling);
                 for (a.call = 0; a.call < CALLS; a.call++)
                     if (takes_a_word(a.call)) try_trays(a);
             }
         a.input_length = 0;
-        for (size_t i = 0; i < sizeof NUMBERS / sizeof *NUMBERS; i++) {
-            a.number = NUMBERS[i];
-            a.call = WORD;
-            try_trays(a);
-            a.call = MARK;
-            try_trays(a);
-            a.call = PRINT;
-            for (size_t m = 0; m < sizeof NUMBERS / sizeof *NUMBERS; m++) {
-                a.marks = NUMBERS[m];
-                try_trays(a);
-            }
-            a.marks = 0;
-            all_pictures(a);
-        }
+        for (size_t i = 0; i < sizeof NUMBERS / sizeof *NUMBERS; i++) all_calls_at(a, NUMBERS[i]);
+        for (int call = PRINT; call <= SHORT_PRINT; call += SHORT_PRINT - PRINT)
+            for (uint64_t near = 0; near < 3; near++) all_calls_at(a, places_for(call, a.k, a.n) - 1 + near);
     }
 }
 
@@ -1049,17 +1109,25 @@ static void draw_picture(struct ask *a) {
     if (below(16) == 0) a->height = draw_any();
 }
 
+/* a window for the place on the short ring: often one that stands there, at a word's start, over its end, or over the ring's */
+static size_t draw_ring_window(uint64_t k, uint64_t n, uint8_t *window) {
+    uint64_t places = places_for(SHORT_MARK, k, n);
+    if (places == 0 || below(2)) return draw_word(k, n, window);
+    uint64_t place = below(4) == 0 ? places - 1 - below(n) : below(places);
+    short_print_marks(k, n, below(4) == 0 ? place / n * n : place, n, window, n);
+    return (size_t)n;
+}
+
 static void draw_call(void) {
     static uint8_t word[256], plan[MOST_PLAN];
     uint64_t places;
     struct ask a = {.input = word, .plan = plan, .kind = (int)below(KINDS)};
     a.call = (int)below(CALLS);
     draw_strip(&a.k, &a.n);
-    admitted(a.k, a.n, &places);
-    if (takes_a_word(a.call)) a.input_length = draw_word(a.k, a.n, word);
+    if (takes_a_word(a.call)) a.input_length = a.call == SHORT_PLACE ? draw_ring_window(a.k, a.n, word) : draw_word(a.k, a.n, word);
     if (a.call == WORD) a.number = draw_number(admitted(a.k, a.n, &places) ? lyndon_count(a.k, a.n) : 100);
-    if (a.call == MARK || a.call == PRINT) a.number = draw_number(places);
-    if (a.call == PRINT) a.marks = below(8) == 0 ? draw_any() : below(below(8) == 0 ? 2000 : 100);
+    if (takes_a_place(a.call)) a.number = draw_number(places_for(a.call, a.k, a.n));
+    if (prints(a.call)) a.marks = below(8) == 0 ? draw_any() : below(below(8) == 0 ? 2000 : 100);
     if (a.call == BILL) draw_bill(&a, plan);
     if (looks_in_a_plan(a.call)) {
         a.plan_length = a.call != LOOK && below(2) ? draw_wide_plan(a.k, a.n, plan) : draw_plan(a.k % 256, a.n % 256, plan);

@@ -4,9 +4,10 @@
 #include "../include/strip.h"
 #include "lent.h"
 
-enum { TURN, RANK, WORD, MARK, PLACE, PRINT, PICTURE, LOOK, SMUDGED, MISREAD, BILL, CALLS };
+enum { TURN, RANK, WORD, MARK, PLACE, PRINT, SHORT_MARK, SHORT_PLACE, SHORT_PRINT, PICTURE, LOOK, SMUDGED, MISREAD, BILL, CALLS };
 enum { MOST_BYTES = 1 << 14, MOST_ANSWER = 1 << 22, MOST_TRAY = 64 };
-static const char *const NAMES[CALLS] = {"turn", "rank", "word", "mark", "place", "print", "picture", "look", "smudged", "misread", "bill"};
+static const char *const NAMES[CALLS] = {"turn",        "rank",    "word", "mark",    "place",   "print", "short_mark", "short_place",
+                                         "short_print", "picture", "look", "smudged", "misread", "bill"};
 
 struct vector {
     int call;
@@ -69,7 +70,8 @@ static uint64_t picture_bytes(void) {
 static uint64_t answer_bytes(void) {
     switch (v.call) {
     case WORD: return v.n;
-    case PRINT: return v.marks;
+    case PRINT:
+    case SHORT_PRINT: return v.marks;
     case PICTURE: return picture_bytes();
     case LOOK:
     case SMUDGED: return STRIP_LAYING;
@@ -81,6 +83,10 @@ static uint64_t answer_bytes(void) {
 static int may_be_so_long(uint64_t length) {
     if (v.refusal != STRIP_FINE) return length == 0;
     return v.call == MISREAD ? length % STRIP_ENTRY == 0 && length <= STRIP_MOST_LIST : length == answer_bytes();
+}
+
+static int takes_a_word(void) {
+    return v.call == TURN || v.call == RANK || v.call == PLACE || v.call == SHORT_PLACE;
 }
 
 static void parse(char *line) {
@@ -97,9 +103,9 @@ static void parse(char *line) {
         v.n = number_field();
     }
     if (v.call == BILL) v.price = number_field(), v.charge = number_field();
-    else if (of_window || v.call == TURN || v.call == RANK || v.call == PLACE) v.input_length = bytes_field(v.input, MOST_BYTES);
+    else if (of_window || takes_a_word()) v.input_length = bytes_field(v.input, MOST_BYTES);
     else v.number = number_field();
-    if (v.call == PRINT || v.call == PICTURE) v.marks = number_field();
+    if (v.call == PRINT || v.call == SHORT_PRINT || v.call == PICTURE) v.marks = number_field();
     if (v.call == PICTURE) v.height = number_field();
     v.refusal = (unsigned)number_field();
     v.answer_length = bytes_field(v.answer, MOST_ANSWER);
@@ -114,6 +120,9 @@ static unsigned call(const struct lent *input, const struct lent *plan, const st
     case MARK: return mark_at(v.k, v.n, v.number, tray->bytes, tray->length);
     case PLACE: return place_of(v.k, v.n, input->bytes, input->length, tray->bytes, tray->length);
     case PRINT: return print_marks(v.k, v.n, v.number, v.marks, tray->bytes, tray->length);
+    case SHORT_MARK: return short_mark_at(v.k, v.n, v.number, tray->bytes, tray->length);
+    case SHORT_PLACE: return short_place_of(v.k, v.n, input->bytes, input->length, tray->bytes, tray->length);
+    case SHORT_PRINT: return short_print_marks(v.k, v.n, v.number, v.marks, tray->bytes, tray->length);
     case PICTURE: return picture_of(v.k, v.n, v.number, v.marks, v.height, count->bytes, count->length, tray->bytes, tray->length);
     case LOOK: return look_up(plan->bytes, plan->length, input->bytes, input->length, tray->bytes, tray->length);
     case SMUDGED: return look_up_smudged(plan->bytes, plan->length, input->bytes, input->length, tray->bytes, tray->length);
@@ -180,6 +189,7 @@ static void compare_all(unsigned long line) {
         compare(v.answer_length + 1, line);
         compare(STRIP_LAYING, line); /* as long as a lookup's answer */
     }
+    if (v.call == SHORT_MARK || v.call == SHORT_PLACE) compare(line % STRIP_NUMBER, line); /* each length that is too short, in turn */
     compare(v.answer_length + 3, line);
     if (v.call == MISREAD && v.answer_length != 0) compare(v.answer_length - STRIP_ENTRY, line); /* as long as the list without an entry */
     if (!has_count()) return;

@@ -8,9 +8,9 @@
     smudged PLAN WINDOW   REFUSAL ANSWER        misread PLAN WINDOW   REFUSAL ANSWER, the list, which may be empty
     bill PLAN PRICE CHARGE REFUSAL ANSWER
 
-Bytes are written in hexadecimal, no bytes as "-". An optional argument is the most places of a small strip, of which all is printed.
-Fails if there are too few smudged windows that tell the lowest place from what a lookup might give by mistake, or too few bills that tell the
-right one from mistakes of theirs.
+and short_mark, short_place, short_print, written as mark, place and print. Bytes are written in hexadecimal, no bytes as "-". An optional argument is
+the most places of a small strip, of which, and of whose short ring, all is printed. Fails if there are too few smudged windows that tell the lowest place
+from what a lookup might give by mistake, too few bills that tell the right one from mistakes of theirs, or too few windows of short rings.
 """
 import random
 import sys
@@ -19,7 +19,7 @@ from itertools import combinations, product
 from math import ceil
 
 import model
-from model import LARGE, MOST_CHARGE, MOST_PRICE, MOST_ROLL, UNREAD, admitted, filling_places, letters, plan_bytes, small_strips, strip_of
+from model import LARGE, MOST_CHARGE, MOST_PRICE, MOST_ROLL, UNREAD, admitted, filling_places, letters, plan_bytes, short_of, small_strips, strip_of
 
 HUGE = (2**60, 2**60 + 1, 2**63, 2**64 - 1)
 
@@ -43,19 +43,32 @@ def word(k, n, index):
     print("word", k, n, index, fault, text(answer))
 
 
-def mark(k, n, place):
-    fault, answer = model.mark_at(k, n, place)
-    print("mark", k, n, place, fault, text(answer))
+def mark(k, n, place, name="mark", call=model.mark_at):
+    fault, answer = call(k, n, place)
+    print(name, k, n, place, fault, text(answer))
 
 
-def place(k, n, window):
-    fault, answer = model.place_of(k, n, window)
-    print("place", k, n, text(window), fault, text(answer))
+def place(k, n, window, name="place", call=model.place_of):
+    fault, answer = call(k, n, window)
+    print(name, k, n, text(window), fault, text(answer))
+    return fault, int.from_bytes(answer, "big")
 
 
-def marks(k, n, start, count):
-    fault, answer = model.print_marks(k, n, start, count)
-    print("print", k, n, start, count, fault, text(answer))
+def marks(k, n, start, count, name="print", call=model.print_marks):
+    fault, answer = call(k, n, start, count)
+    print(name, k, n, start, count, fault, text(answer))
+
+
+def short_mark(k, n, place):
+    mark(k, n, place, "short_mark", model.short_mark_at)
+
+
+def short_place(k, n, window):
+    tally_short(k, n, tuple(window), *place(k, n, window, "short_place", model.short_place_of))
+
+
+def short_marks(k, n, start, count):
+    marks(k, n, start, count, "short_print", model.short_print_marks)
 
 
 def picture(k, n, start, width, height):
@@ -91,6 +104,12 @@ def on_word(k, n, marks_):
     turn(k, n, marks_)
     rank(k, n, marks_)
     place(k, n, marks_)
+    short_place(k, n, marks_)
+
+
+# A ring, and what is asked of it
+Asked = namedtuple("Asked", "ring mark marks place")
+STRIP, SHORT = Asked(strip_of, mark, marks, place), Asked(short_of, short_mark, short_marks, short_place)
 
 
 # What the smudged windows tell
@@ -134,9 +153,11 @@ def tally(plan, window):
 
 def check_tally():
     """Each kind came often, on the small strips, on each large one and with many sections; a place of a small strip is the same in 32 bits. Of the bills
-    too, of both records."""
+    too, of both records, and of the windows of short rings."""
     del tallied[SMALL]["the lowest place in 32 bits"]
-    for group, often in [(SMALL, 300), (MANY, 20)] + [(strip, 10) for strip in LARGE] + [(record, 20) for record in RECORDS]:
+    del tallied[SMALL_RINGS]["in 32 bits"]
+    rings = [(SMALL_RINGS, 10)] + [((short_of, k, n), 2) for k, n in LARGE_RINGS]
+    for group, often in [(SMALL, 300), (MANY, 20)] + [(strip, 10) for strip in LARGE] + [(record, 20) for record in RECORDS] + rings:
         assert min(tallied[group].values()) >= often, (group, tallied[group])
 
 
@@ -199,6 +220,41 @@ def tally_bill(plan, price, charge, fault, cents):
             tallied[record].update(kinds)
 
 
+# What the windows of short rings tell
+
+LARGE_RINGS = LARGE + ((35, 11), (2, 48), (2, 59))
+SMALL_RINGS, MOST_RING = "small rings", 512
+
+
+def turned_place(ring, window):
+    """In the ring's word that is a turn of the window, where a window is read that does not begin with the largest shade."""
+    return ring.start(model.smallest_rotation(window)) + -model.least_turn(window) % ring.n
+
+
+def tally_short(k, n, window, fault, found):
+    """Counts the kinds of a window on a short ring, by the mistakes that would give another number or another place; of one mark there are none."""
+    if not admitted(k, n) or n == 1 or k**n > MOST_RING and (k, n) not in LARGE_RINGS:
+        return
+    root = model.root_length(window) if window else 0
+    kinds = {"16 before 2": fault == 2 and root < len(window), "16 before 3": fault == 3 and root < len(window), "16 never": fault == 16}
+    if len(model.divisors(n)) > 2:
+        kinds["16 for a single shade alone"] = fault == 16 and root > 1
+    if fault == 0:
+        ring, strip = short_of(k, n), strip_of(k, n)
+        word, at = ring.word_at(found)
+        following, _ = ring.following(word)
+        kinds.update({
+            "the strip's place": strip.place(window) != found,
+            "in its own word": turned_place(ring, window) != found,
+            "in 32 bits": found >= 2**32,
+            "not beyond a word": at > 0,
+            "not beyond the last word": found > ring.places - n,
+            "not where a shorter word is left out": at > 0 and strip.following(word)[0] != following,
+            "only beyond a word": at == 0,
+        })
+    tallied[SMALL_RINGS if k**n <= MOST_RING else (short_of, k, n)].update(kinds)
+
+
 # Cases named in the documents
 
 def cases_of_the_rules():
@@ -209,21 +265,27 @@ def cases_of_the_rules():
     marks(4, 1, 0, 4)
     marks(3, 2, 0, 9)
     marks(2, 4, 0, 16)
+    short_marks(4, 1, 0, 4)
+    short_marks(3, 2, 0, 6)
+    short_marks(2, 4, 0, 12)
+    short_marks(2, 2, 1, 3)
     picture(2, 4, 4, 5, 2)
     for index in range(12):
         word(2, 6, index)
-    for start in range(7, 11):
-        mark(3, 2, start)
-        marks(3, 2, start, 3)
+    for asked, starts in ((STRIP, range(7, 11)), (SHORT, range(4, 10))):
+        for start in starts:
+            asked.mark(3, 2, start)
+            asked.marks(3, 2, start, 3)
     for window in ((3, 0), (0, 3), (3, 3)):
         on_word(3, 2, window)
     for written in ("000000", "100100", "101010", "010111", "111111", "100000", "011010"):
         on_word(2, 6, letters(written))
     for k, n in ((2, 60), (4, 30), (32, 12), (10, 18), (2, 61), (4, 31), (33, 12), (10, 19), (1, 5), (2, 0), (36, 11), (36, 12), (37, 1), (36, 1)):
         on_word(k, n, (0,) * n)
-        mark(k, n, 0)
         word(k, n, 1)
-        marks(k, n, 0, 3)
+        for asked in (STRIP, SHORT):
+            asked.mark(k, n, 0)
+            asked.marks(k, n, 0, 3)
 
 
 def plans_of_the_rules():
@@ -273,27 +335,35 @@ def cases_of_document_004():
         assert model.word_of(2, 6, index) == (0, bytes(letters(w)))
         word(2, 6, index)
         on_word(2, 6, letters(w))
-    marks(2, 6, 0, 64)
-    start = 0
-    for w in model.STRIP_6:
-        marks(2, 6, start, len(w))
-        start += len(w)
+    for asked, words in ((STRIP, model.STRIP_6), (SHORT, model.ONLY_6)):
+        asked.marks(2, 6, 0, len("".join(words)))
+        start = 0
+        for w in words:
+            assert asked.ring(2, 6).marks(start, len(w)) == letters(w)
+            asked.marks(2, 6, start, len(w))
+            start += len(w)
 
 
-# Everything of a small strip
+# Everything of a small strip and its short ring
 
 def whole_strip(k, n):
-    strip = strip_of(k, n)
     for w in model.words(k, n):
         on_word(k, n, w)
-    for index in list(range(strip.count() + 2)) + list(HUGE):
+    for index in list(range(strip_of(k, n).count() + 2)) + list(HUGE):
         word(k, n, index)
-    for start in list(range(strip.places + 1)) + list(HUGE):
-        mark(k, n, start)
-        marks(k, n, start, n)
-    last = strip.places - 1
-    for start, count in product((0, 1 % strip.places, strip.places // 2, last), (0, 1, last, last + 1, last + 2, 2 * last + 5)):
-        marks(k, n, start, count)
+    for asked in (STRIP, SHORT):
+        every_place(k, n, asked)
+
+
+def every_place(k, n, asked):
+    """And where a place is no more: behind the ring's end, and behind the strip's."""
+    places = asked.ring(k, n).places
+    for start in sorted({*range(places + 1), k**n - 1, k**n, *HUGE}):
+        asked.mark(k, n, start)
+        asked.marks(k, n, start, n)
+    last = places - 1
+    for start, count in product((0, 1 % places, places // 2, last), (0, 1, last, last + 1, last + 2, 2 * last + 5)):
+        asked.marks(k, n, start, count)
 
 
 # Parts of a large strip
@@ -337,23 +407,57 @@ def part_of_strip(k, n, chance, many):
     for _ in range(many):
         for make in (runs, repeated, plain, topped):
             on_word(k, n, tuple(make(k, n, chance)))
-    edges = [0, 1, n - 1, n, n + 1, strip.places // 2, strip.places // k, strip.places - n, strip.places - n + 1, strip.places - 1]
-    for start in edges + [chance.randrange(strip.places) for _ in range(many // 2)]:
-        mark(k, n, start)
-        marks(k, n, start, chance.choice((0, 1, n - 1, n, n + 1, 2 * n, 300)))
-        window = strip.marks(start, n)
-        place(k, n, window)
+    some_places(k, n, STRIP, chance, many // 2)
     last = strip.count()
     for index in [1, 2, 3, last // 2, last - 1, last] + [chance.randint(1, last) for _ in range(many // 2)]:
         word(k, n, index)
         rank(k, n, strip.word(index))
-    for value in (strip.places, strip.places + 1) + HUGE:
-        mark(k, n, value)
-        marks(k, n, value, 2)
-        marks(k, n, value, 0)
+    for value in (0, last + 1, strip.places, strip.places + 1) + HUGE:
         word(k, n, value)
-    word(k, n, 0)
-    word(k, n, last + 1)
+
+
+def some_places(k, n, asked, chance, many):
+    """At the ends of a ring, in its middle and anywhere, and where a place is no more."""
+    ring = asked.ring(k, n)
+    edges = [0, 1, n - 1, n, n + 1, ring.places // 2, ring.places // k, ring.places - n, ring.places - n + 1, ring.places - 1]
+    for start in edges + [chance.randrange(ring.places) for _ in range(many)]:
+        asked.mark(k, n, start)
+        asked.marks(k, n, start, chance.choice((0, 1, n - 1, n, n + 1, 2 * n, 300)))
+        asked.place(k, n, ring.marks(start, n))
+    for value in sorted({ring.places - 1, ring.places, ring.places + 1, k**n - 1, k**n, *HUGE}):
+        asked.mark(k, n, value)
+        asked.marks(k, n, value, 2)
+        asked.marks(k, n, value, 0)
+
+
+def some_word(k, n, chance):
+    """Any Lyndon word of n letters."""
+    return strip_of(k, n).word(chance.randint(1, strip_of(k, n).count()))
+
+
+def part_of_short(k, n, chance, many):
+    """Words read from each of their marks on, among them some behind which the strip has a shorter word; windows as for strips."""
+    ring = short_of(k, n)
+    some_places(k, n, SHORT, chance, many)
+    lengths = model.divisors(n)[:-1]
+    left_out = [some_word(k, d, chance) for d in sorted({1, *chance.sample(lengths, min(2, len(lengths)))})]
+    words = [ring.before(shorter) or ring.last for shorter in left_out] + [ring.last, some_word(k, n, chance)]
+    for start, at in product(sorted({ring.start(w) for w in words}), range(n + 1)):
+        short_place(k, n, ring.marks((start + at) % ring.places, n))
+    for make, _ in product((runs, repeated, plain, topped), range(many)):
+        short_place(k, n, make(k, n, chance))
+    repeating(k, n, chance)
+
+
+def repeating(k, n, chance):
+    """Shorter words repeated: as they are, with a mark changed, with a bad mark in one of them or in each, and once too often or too rarely."""
+    for root in model.divisors(n)[:-1]:
+        for bad in (k, 255):
+            w = [chance.randrange(k) for _ in range(root)]
+            broken = w[:-1] + [bad]
+            whole, behind = w * (n // root), w * (n // root - 1)
+            for near in (whole, behind + w[:-1] + [(w[-1] + 1) % k], behind + broken, broken * (n // root), whole + w, behind, broken * (n // root + 1)):
+                short_place(k, n, near)
 
 
 # Pictures
@@ -391,11 +495,12 @@ def refusals():
             if bad is not None and w:
                 w[-1] = bad
             on_word(k, n, w)
-        for value in (0, 1, 8, 63, 64, 80, 81, 82) + HUGE:
+        for value in (0, 1, 8, 53, 54, 63, 64, 71, 72, 80, 81, 82) + HUGE:
             word(k, n, value)
-            mark(k, n, value)
-            for count in (0, 1, 9):
-                marks(k, n, value, count)
+            for asked in (STRIP, SHORT):
+                asked.mark(k, n, value)
+                for count in (0, 1, 9):
+                    asked.marks(k, n, value, count)
 
 
 def torn(plan):
@@ -878,8 +983,11 @@ def main():
     for k, n in small_strips(most):
         assert admitted(k, n)
         whole_strip(k, n)
+        repeating(k, n, random.Random(n))
     for k, n in LARGE:
         part_of_strip(k, n, chance, 60)
+    for k, n in LARGE_RINGS:
+        part_of_short(k, n, random.Random(n), 20)
     small_plans(chance, 200)
     large_plans(chance, 6)
     small_smudged(chance, 2)
