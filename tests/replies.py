@@ -13,8 +13,9 @@ from itertools import product
 
 import model
 import stripwalk
-from model import LARGE, MOST_MARKS, MOST_PLACES, MOST_PRICE, MOST_SHADES, cursor_start, cursor_with, number, plan_bytes, small_strips, strip_of
-from vectors import HUGE, bills, both, either, plain, random_sections, repeated, runs, some_price, spread, topped, torn
+from model import (LARGE, MOST_MARKS, MOST_PLACES, MOST_PRICE, MOST_SHADES, cursor_start, cursor_with, number, plan_bytes, short_of, small_strips,
+                   strip_of)
+from vectors import HUGE, bills, both, either, plain, random_sections, repeated, runs, some_price, some_word, spread, topped, torn
 
 MOST_BYTES = 65536  # of a request
 TRAY, PAPER, BEFORE = 64, 512, 170  # bytes of the tray, of that for a picture or a list, and what each holds before the call
@@ -35,6 +36,10 @@ GIVES = {
     "step": (0, 1, 10),
     "step_cursor": (0, 1, 10),
     "step_back": (0, 1, 10),
+    "short_start_cursor": (0, 1, 4),
+    "short_cursor_place": (0, 1, 10),
+    "short_step": (0, 1, 10),
+    "short_step_back": (0, 1, 10),
 }
 
 
@@ -87,16 +92,24 @@ def bill_lines(body):
 
 
 def start_lines(body):
-    fault, cursor = cursor_start(*numbers_in(body))
-    yield line("start_cursor", fault, *fields_of(cursor))
+    for call, ring in (("start_cursor", strip_of), ("short_start_cursor", short_of)):
+        fault, cursor = cursor_start(*numbers_in(body), ring)
+        yield line(call, fault, *fields_of(cursor))
+
+
+def moved_lines(cursor, ring, moves):
+    for call, move in moves:
+        fault, mark, passed, moved = move(cursor, ring)
+        yield line(call, fault, mark, passed, *fields_of(moved))
 
 
 def cursor_lines(body):
     cursor = body[0], body[1], tuple(body[2:62]), body[62], body[63]
+    on, back = model.cursor_step, model.cursor_back
     yield line("cursor_place", *model.cursor_place(cursor))
-    for call, move in (("step", model.cursor_step), ("step_cursor", model.cursor_step), ("step_back", model.cursor_back)):
-        fault, mark, passed, moved = move(cursor)
-        yield line(call, fault, mark, passed, *fields_of(moved))
+    yield from moved_lines(cursor, strip_of, (("step", on), ("step_cursor", on), ("step_back", back)))
+    yield line("short_cursor_place", *model.cursor_place(cursor, short_of))
+    yield from moved_lines(cursor, short_of, (("short_step", on), ("short_step_back", back)))
 
 
 LINES = {b"w": word_lines, b"i": picture_lines, b"p": plan_lines, b"m": misread_lines, b"b": bill_lines, b"s": start_lines, b"c": cursor_lines}
@@ -144,6 +157,7 @@ def ask_cursor(cursor):
 
 def sample():
     good = cursor_start(2, 6, 28)[1]
+    first, last, shorter = (cursor_with(2, 6, model.letters(word), at) for word, at in (("000001", 0), ("011111", 5), ("001", 2)))
     return b"".join((
         ask_word(2, 6, (0, 1, 1, 0, 1, 0), 9), ask_word(2, 6, (0, 1, 2, 0, 1, 0), 9), ask_word(2, 6, (0, 1, 0, 1, 1, 1), 5),
         ask_picture(2, 4, 4, 5, 2, 21), ask_picture(3, 4, 4, 5, 2, 21), ask_picture(2, 4, 4, 5, 2, 18),
@@ -151,6 +165,8 @@ def sample():
         ask_misread(stripwalk.SAMPLE, (1, 0, 1, 1), 23), ask_misread(stripwalk.SAMPLE, (1, 0, 0, 1), 23),
         ask_bill(stripwalk.SAMPLE, 250, 100), ask_bill(stripwalk.SAMPLE, MOST_PRICE + 1, 100), ask_bill(stripwalk.SAMPLE[:-1], 250, 100),
         ask_start(2, 6, 28), ask_start(2, 6, 64), ask_cursor(good), ask_cursor(good[:4] + (6,)),
+        ask_start(2, 6, 53), ask_start(2, 6, 54), ask_start(2, 61, 0),
+        ask_cursor(first), ask_cursor(last), ask_cursor(shorter), ask_cursor((1,) + good[1:]),
     ))
 
 
@@ -316,6 +332,15 @@ def large_starts(chance):
         yield ask_start(k, n, k**n + place)
 
 
+def short_starts(chance):
+    """Places of large short rings: at a word's start and its end, and on both sides of the ring's end; behind it the strip has places yet."""
+    for k, n in LARGE:
+        size = short_of(k, n).places
+        word = chance.randrange(size) // n * n
+        for place in (n - 1, n, word, word + n - 1, size - n - 1, size - n, size - 1, size, size + 1, size + n, chance.randrange(size, k**n)):
+            yield ask_start(k, n, place)
+
+
 NO_STRIPS = ((0, 0), (0, 6), (1, 6), (2, 0), (2, 61), (37, 1), (36, 12), (255, 255))
 
 
@@ -344,6 +369,21 @@ def large_cursors(chance):
         for at in (cursor[4], 0, cursor[3] - 1):
             yield ask_cursor(with_place(cursor, at))
         yield from map(ask_cursor, single_faults(cursor))
+
+
+def short_cursors(chance):
+    """Cursors on large short rings, at the first and the last mark of a word: of the ring's first and last word, of some, and of those beside a shorter
+    word of the strip; some with one fault. And cursors on words of every length that divides n, of which only n is one of the ring's."""
+    for k, n in LARGE:
+        ring, strip = short_of(k, n), strip_of(k, n)
+        some = [some_word(k, d, chance) for d in model.divisors(n)]
+        beside = [strip.before(word) for word in some] + [strip.after(word) for word in some]
+        words = [ring.first, ring.last, some_word(k, n, chance)] + some + [word for word in beside if word]
+        for word in words:
+            for at in sorted({0, len(word) - 1}):
+                yield ask_cursor(cursor_with(k, n, word, at))
+        for word in words[:4]:
+            yield from map(ask_cursor, single_faults(cursor_with(k, n, word, chance.randrange(len(word)))))
 
 
 def with_word(cursor, word, at=0):
@@ -460,9 +500,11 @@ def requests():
         "junk bills": junk_bills(chance),
         "every start": every_start(),
         "large starts": large_starts(chance),
+        "short starts": short_starts(random.Random(1)),
         "refused starts": refused_starts(),
         "every cursor": every_cursor(),
         "large cursors": large_cursors(chance),
+        "short cursors": short_cursors(random.Random(2)),
         "lost cursors": lost_cursors(),
         "cursors of no strip": cursors_of_no_strip(),
         "junk cursors": junk_cursors(chance),

@@ -2,18 +2,20 @@
 // length of what follows in 2 bytes, and that many bytes. Numbers have the highest byte first.
 //     w  k and n in 8 bytes each, the length of the lent tray in one, a word     is_lyndon, shortest_root, smallest_rotation, lyndon_count
 //     p  a plan                                                                  check_plan
-//     s  k, n and a place in 8 bytes each                                        start_cursor
+//     s  k, n and a place in 8 bytes each                                        start_cursor, short_start_cursor
 //     i  k, n, a place, a width and a height in 8 bytes each, the length of      print_picture
 //        the lent tray in 2
 //     m  the length of the lent tray in 2 bytes, the window's in one, a window,  misreadings
 //        a plan
 //     b  a price and a charge in 8 bytes each, a plan                            bill
-//     c  a cursor: k, n, the 60 bytes of its word, long, place                   cursor_place, step, step_cursor, step_back
+//     c  a cursor: k, n, the 60 bytes of its word, long, place                   cursor_place, step, step_cursor, step_back,
+//                                                                                short_cursor_place, short_step, short_step_back
 // tests/replies.py makes asks, and the lines that must come.
 ghost use Prim.Native.Nat.{_+_, _≤_, _<_};
 ghost use lib.ListN.{length};
 use calls::Value;
 use cursors::Cursor;
+use cursors::Started;
 use cursors::Stepped;
 
 // Bytes of an ask before what is asked, before its word, before its window and before its plan that is billed; of a start, of a picture, of a cursor, and of a cursor's word.
@@ -90,6 +92,14 @@ fn placed(c: Cursor) {
     byte(c.long);
     byte(c.place);
     end();
+}
+
+// The line of a start.
+fn started(call: &[u8], answer: Started) {
+    io::write_all(1, call);
+    byte(answer.number);
+    let cursor = answer.cursor;
+    placed(cursor);
 }
 
 // The line of a step.
@@ -237,11 +247,14 @@ fn start_asked(ask: &[u8]) {
     if ask.len() < START_BYTES {
         return;
     }
-    let started = cursors::start_cursor(number(ask, 0), number(ask, 8), number(ask, 16));
-    io::write_all(1, b"start_cursor");
-    byte(started.number);
-    let cursor = started.cursor;
-    placed(cursor);
+    let k = number(ask, 0);
+    let n = number(ask, 8);
+    let place = number(ask, 16);
+    started(b"start_cursor", cursors::start_cursor(k, n, place));
+    started(
+        b"short_start_cursor",
+        cursors::short_start_cursor(k, n, place),
+    );
 }
 
 // The bytes of a cursor's word.
@@ -274,6 +287,9 @@ fn cursor_asked(ask: &[u8]) {
     stepped(b"step", cursor.step());
     stepped(b"step_cursor", cursors::step_cursor(cursor));
     stepped(b"step_back", cursor.step_back());
+    valued(b"short_cursor_place", cursors::short_cursor_place(cursor));
+    stepped(b"short_step", cursor.short_step());
+    stepped(b"short_step_back", cursor.short_step_back());
 }
 
 // One ask.

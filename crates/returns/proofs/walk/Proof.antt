@@ -5,10 +5,10 @@ use Rattle.returns.proofs.walk.Statement.{statement}
 use Rattle.returns.proofs.walk.Tie as tie
 
 abbrev Inv-loop : tie.InvT-loop
-Inv-loop back at₀ i₀ at i = i ≤ 80
+Inv-loop short back at₀ i₀ at i = i ≤ 80
 
 abbrev μ-loop : tie.MeasureT-loop
-μ-loop back at₀ i₀ at i = 80 - i
+μ-loop short back at₀ i₀ at i = 80 - i
 
 loop-holds : tie.Need-loop-holds Inv-loop μ-loop
 loop-holds c = omega arith

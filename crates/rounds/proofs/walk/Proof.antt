@@ -5,10 +5,10 @@ use Rattle.rounds.proofs.walk.Statement.{statement}
 use Rattle.rounds.proofs.walk.Tie as tie
 
 abbrev Inv-loop : tie.InvT-loop
-Inv-loop k n place count at₀ i₀ at i = i ≤ count
+Inv-loop short k n place count at₀ i₀ at i = i ≤ count
 
 abbrev μ-loop : tie.MeasureT-loop
-μ-loop k n place count at₀ i₀ at i = count - i
+μ-loop short k n place count at₀ i₀ at i = count - i
 
 field-requires : tie.Need-field-requires Inv-loop μ-loop
 field-requires c κs = tt
@@ -19,8 +19,8 @@ field-requires-2 c κs = tt
 field-requires-3 : tie.Need-field-requires-3 Inv-loop μ-loop
 field-requires-3 c κs = tt
 
-start-cursor-requires : tie.Need-start-cursor-requires Inv-loop μ-loop
-start-cursor-requires c κs = tt
+start-requires : tie.Need-start-requires Inv-loop μ-loop
+start-requires c κs = tt
 
 letter-requires : tie.Need-letter-requires Inv-loop μ-loop
 letter-requires c κs = tt
@@ -55,7 +55,7 @@ walk-spec =
     field-requires
     field-requires-2
     field-requires-3
-    start-cursor-requires
+    start-requires
     letter-requires
     end-requires
     loop-holds
