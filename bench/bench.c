@@ -6,11 +6,11 @@
 #include <stdlib.h>
 #include <time.h>
 
-enum { TURN, RANK, PLACE, WORD, MARK, LOOK, SMUDGED, MISREAD, BILL, PRINT, PICTURE, CALLS };
+enum { TURN, RANK, PLACE, SHORT_PLACE, WORD, MARK, SHORT_MARK, LOOK, SMUDGED, MISREAD, BILL, PRINT, SHORT_PRINT, PICTURE, CALLS };
 enum { LIBRARY, PLAIN, BEST, COPY, MAKERS };
 enum { INPUTS = 64, ROUNDS = 15, PRINTED = 1 << 20, WIDTH = STRIP_MOST_WIDTH, HEIGHT = STRIP_MOST_HEIGHT, FILE_BYTES = STRIP_MOST_PICTURE };
-static const char *const NAMES[CALLS] = {"turn_of", "rank_of",         "place_of",       "word_of", "mark_at",
-                                         "look_up", "look_up_smudged", "misreadings_of", "bill_of", "print_marks", "picture_of"};
+static const char *const NAMES[CALLS] = {"turn_of", "rank_of",         "place_of",       "short_place_of", "word_of",     "mark_at",           "short_mark_at",
+                                         "look_up", "look_up_smudged", "misreadings_of", "bill_of",        "print_marks", "short_print_marks", "picture_of"};
 static const uint64_t STRIPS[][2] = {{2, 60}, {4, 30}, {36, 11}};
 
 static uint64_t k, n, numbers[INPUTS], charges[INPUTS]; /* the numbers of bills are prices */
@@ -42,8 +42,18 @@ static void draw_word(uint8_t *word) {
     for (uint64_t j = 0; j < n; j++) word[j] = (uint8_t)(draw() % k);
 }
 
+static uint64_t limit_of(int call) {
+    switch (call) {
+    case WORD: return lyndon_count(k, n);
+    case BILL: return STRIP_MOST_PRICE + 1;
+    case SHORT_MARK:
+    case SHORT_PRINT: return n * lyndon_count(k, n);
+    }
+    return places_of(k, n);
+}
+
 static void draw_inputs(int call) {
-    uint64_t limit = call == WORD ? lyndon_count(k, n) : call == BILL ? STRIP_MOST_PRICE + 1 : places_of(k, n), room = places_of(k, n) / SECTIONS;
+    uint64_t limit = limit_of(call), room = places_of(k, n) / SECTIONS;
     for (int i = 0; i < INPUTS; i++) {
         uint8_t tray[MOST];
         numbers[i] = draw() % limit + (call == WORD);
@@ -63,13 +73,16 @@ static void draw_inputs(int call) {
         case TURN: return name##turn_of(k, n, words[i], n, tray, MOST);                                                                 \
         case RANK: return name##rank_of(k, n, words[i], n, tray, MOST);                                                                 \
         case PLACE: return name##place_of(k, n, words[i], n, tray, MOST);                                                               \
+        case SHORT_PLACE: return name##short_place_of(k, n, words[i], n, tray, MOST);                                                   \
         case WORD: return name##word_of(k, n, numbers[i], tray, MOST);                                                                  \
         case MARK: return name##mark_at(k, n, numbers[i], tray, MOST);                                                                  \
+        case SHORT_MARK: return name##short_mark_at(k, n, numbers[i], tray, MOST);                                                      \
         case LOOK: return name##look_up(plan, sizeof plan, words[i], n, tray, MOST);                                                    \
         case SMUDGED: return name##look_up_smudged(plan, sizeof plan, words[i], n, tray, MOST);                                         \
         case MISREAD: return name##misreadings_of(plan, sizeof plan, words[i], n, tray, MOST, printed[maker], STRIP_MOST_LIST);         \
         case BILL: return name##bill_of(plan, sizeof plan, numbers[i], charges[i], tray, MOST);                                         \
         case PRINT: return name##print_marks(k, n, numbers[i], PRINTED, printed[maker], PRINTED);                                       \
+        case SHORT_PRINT: return name##short_print_marks(k, n, numbers[i], PRINTED, printed[maker], PRINTED);                           \
         default: return name##picture_of(k, n, numbers[i], WIDTH, HEIGHT, tray, MOST, printed[maker], FILE_BYTES);                      \
         }
 
@@ -79,13 +92,13 @@ static uint8_t ask(int maker, int call, int i, uint8_t *tray) {
         ASK(plain_, PLAIN)
         ASK(best_, BEST)
     }
-    memcpy(printed[COPY], printed[LIBRARY], call == PRINT ? PRINTED : FILE_BYTES);
+    memcpy(printed[COPY], printed[LIBRARY], call == PICTURE ? FILE_BYTES : PRINTED);
     __asm__ volatile("" : : "r"(printed[COPY]) : "memory");
     return 0;
 }
 
 static int prints(int call) {
-    return call == PRINT || call == PICTURE;
+    return call == PRINT || call == SHORT_PRINT || call == PICTURE;
 }
 
 static void check(int call, int inputs) {

@@ -14,6 +14,9 @@ enum { MOST = 60, SECTIONS = 500 };
     uint8_t name##_mark_at(uint64_t k, uint64_t n, uint64_t place, uint8_t *tray, size_t tray_len);                                    \
     uint8_t name##_place_of(uint64_t k, uint64_t n, const uint8_t *window, size_t window_len, uint8_t *tray, size_t tray_len);         \
     uint8_t name##_print_marks(uint64_t k, uint64_t n, uint64_t place, uint64_t marks, uint8_t *tray, size_t tray_len);                \
+    uint8_t name##_short_mark_at(uint64_t k, uint64_t n, uint64_t place, uint8_t *tray, size_t tray_len);                              \
+    uint8_t name##_short_place_of(uint64_t k, uint64_t n, const uint8_t *window, size_t window_len, uint8_t *tray, size_t tray_len);   \
+    uint8_t name##_short_print_marks(uint64_t k, uint64_t n, uint64_t place, uint64_t marks, uint8_t *tray, size_t tray_len);          \
     uint8_t name##_picture_of(uint64_t k, uint64_t n, uint64_t place, uint64_t width, uint64_t height, uint8_t *size, size_t size_len,  \
                               uint8_t *tray, size_t tray_len);                                                                          \
     uint8_t name##_look_up(const uint8_t *plan, size_t plan_len, const uint8_t *window, size_t window_len, uint8_t *tray, size_t tray_len); \
@@ -64,6 +67,11 @@ static inline uint64_t lyndon_count(uint64_t k, uint64_t n) {
     for (uint64_t d = 1, power = k; d <= n; d++, power *= k)
         if (n % d == 0) sum += MOBIUS[n / d] * (int64_t)power;
     return (uint64_t)sum / n;
+}
+
+/* of a place on the short ring */
+static inline uint8_t short_fault(uint64_t k, uint64_t n, uint64_t place) {
+    return places_of(k, n) == 0 ? 1 : place >= n * lyndon_count(k, n) ? 4 : 0;
 }
 
 static inline uint64_t get_number(const uint8_t *at, int length) {

@@ -15,6 +15,9 @@ Before it is measured, all answers are compared. Ratios only; on a busy machine 
   For a cursor's step (`bench/strides.c`, called from no C): the same tests and steps, a million on each strip.
 - **memcpy**: copying as many bytes as were printed.
 
+Document 004 ranks and lists the words of the short ring, in its Example 3, and has no place of a window there: the column beside it stands for a search
+in two words and those behind them, that of the window's smallest rotation and the last one below the window's rest.
+
 A picture has 60,000 marks in 64 rows, the most that there may be; document 004 has none, so the column beside it stands for its marks, written
 a byte at a time.
 
