@@ -84,7 +84,7 @@ StepOn lengths c r = MoveSays (faultOn lengths c) (stepIn (okOf lengths) (cursor
 abbrev pub BackOn : Lengths → DC.Cursor → DT.Stepped → Type 0
 BackOn lengths c r = MoveSays (faultOn lengths c) (backIn (okOf lengths) (cursorIn c)) c r
 
--- These compute to what the calls promise: on the strip
+-- what the calls promise, to which those on either ring compute: on the strip
 abbrev pub cursorFault : DC.Cursor → ℕ
 cursorFault c = faultBy (cursorOk (cursorIn c)) c
 
