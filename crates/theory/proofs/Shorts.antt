@@ -1,4 +1,4 @@
--- The short ring: n places for each Lyndon word of length n; the word that holds a place; the place of a window, by ranks.
+-- The short ring: n places for each Lyndon word of length n, each window at one place, the word that holds a place, the first word and the last.
 use mathlib.Core.Path.{_≡_, refl, sym, _∙_, ap, subst}
 use mathlib.Core.Bool.{true}
 use mathlib.Core.List.{List, [], _∷_, _++_}
