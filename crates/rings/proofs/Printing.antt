@@ -52,7 +52,7 @@ module _ (lengths : Lengths) (k n : ℕ) (two : 2 ≤ k) (one : 1 ≤ n) where
   place-small u at i h =
       subst (λ m. placeIn (cursor k n u at) < m) (long-of lengths k n two one) (word-inside (Words) (ring-ascend (okOf lengths n) k n) u at i h)
 
-  -- the letters of a word of the strip stand where it stands
+  -- the letters of a word of the ring stand where it stands
   pub word-read : (u : List ℕ) (at c : ℕ) → In u (Words) → at + c ≤ length u → lettersOf lengths k n (placeIn (cursor k n u at)) c ≡ take c (drop at u)
   word-read u at zero i h = refl
   word-read u at (suc c) i h =
