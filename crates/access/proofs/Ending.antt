@@ -3,9 +3,9 @@
 use mathlib.Core.Path.{_≡_, sym, _∙_, ap, subst}
 use mathlib.Core.Bool.{true}
 use mathlib.Core.List.{List, _++_}
-use Prim.Native.Nat.{ℕ, suc, _+_, _-_, _*_, _^_, _≤_}
+use Prim.Native.Nat.{ℕ, suc, _+_, _-_, _*_, _≤_}
 use native.Mathlib.Omega.{arith}
-use native.Mathlib.Nat.{le-mul-of-pos-right, mul-le-mul-left}
+use native.Mathlib.Nat.{le-mul-of-pos-right}
 use lib.ListN.{length, take}
 use lib.Seq.{take-append-seam}
 use Rattle.shape.specs.declared.Strip as DS
@@ -13,11 +13,11 @@ use Rattle.shape.specs.declared.Lengths.{Lengths}
 use Rattle.shape.specs.declared.Lengths.the-variants.{Divisors, Whole}
 use Rattle.shape.specs.Shapes.{Shaped, WordOn}
 use Rattle.shape.specs.Rings.{okOf}
-use Rattle.shape.proofs.Rings.{allowed-of, size-most}
+use Rattle.shape.proofs.Rings.{allowed-of}
 use Rattle.shape.proofs.Limits.{limits}
 use Rattle.rings.specs.Moves.{HeldOn}
 use Rattle.rings.proofs.Moving.{held-length, held-in}
-use Rattle.theory.specs.Words.{repeated, marksOk, powerTo, howMany, rank}
+use Rattle.theory.specs.Words.{repeated, marksOk, powerTo, rank}
 use Rattle.theory.specs.Lists.{In}
 use Rattle.theory.specs.Steps.{extension}
 use Rattle.theory.specs.Rings.{ringWords, beforeW}
@@ -27,7 +27,6 @@ use Rattle.theory.proofs.Lyndon.{necklace-pre}
 use Rattle.theory.proofs.Powers.{repeated-add, repeated-length}
 use Rattle.theory.proofs.Necklaces.{power-necklace}
 use Rattle.theory.proofs.Rotations.{Fits, power-is, power-length, power-self, ring-fits}
-use Rattle.theory.proofs.Levels.{rank-most}
 use Rattle.theory.proofs.Ends.{strip-ends, short-ends}
 use Rattle.theory.proofs.Shorts.{short-words}
 use Rattle.access.specs.Holders.{endIn}
@@ -48,13 +47,6 @@ ends-in : (lengths : Lengths) {s : DS.Strip} (u : List ℕ) → Shaped s → In 
 ends-in Divisors {s} u h i fit = strip-ends (s .k) (s .n) u (limits h .some) i
 ends-in Whole {s} u h i fit =
     short-ends (s .k) (s .n) u (limits h .some) i ∙ ap (λ x. s .n * rank (s .k) x) (sym (power-self fit (short-words (s .k) (s .n) u .0 i .0)))
-
--- no word ends behind the short ring
-pub rank-fits : {s : DS.Strip} {v : List ℕ} → WordOn s v → s .n * rank (s .k) v ≤ 2 ^ 60
-rank-fits {s} {v} h =
-    let r = limits (h .shaped) in
-    let most : rank (s .k) v ≤ howMany (s .k) (s .n) = subst (λ m. rank (s .k) v ≤ howMany (s .k) m) (h .long) (rank-most (s .k) v) in
-    omega (arith, mul-le-mul-left (s .n) most, size-most Whole (s .k) (s .n) (r .two) (r .some), r .range)
 
 module _ {lengths : Lengths} {s : DS.Strip} {w : List ℕ} {long : ℕ} (h : HeldOn lengths s w long) {v : List ℕ} (e : v ≡ extension (length w) (take long w)) where
   abbrev u : List ℕ

@@ -1,28 +1,21 @@
 -- A place on a ring or behind it: its fault, and what a check that passed says.
 use mathlib.Core.Path.{_≡_, _∙_, ap₂}
-use Prim.Native.Nat.{ℕ, _*_, _^_, _≤_, _<_}
+use Prim.Native.Nat.{ℕ, _≤_, _<_}
 use native.Mathlib.Omega.{arith}
 use lib.Dec.{leb}
 use borrow.Author.Tests.{leb-false, le-leb, lt-leb}
-use Rattle.theory.specs.Words.{when, howMany}
+use Rattle.theory.specs.Words.{when}
 use Rattle.theory.specs.Strips.{stripFault}
 use Rattle.theory.proofs.Faults.{first-none, when-none}
 use Rattle.shape.specs.declared.Strip as DS
 use Rattle.shape.specs.declared.Lengths.{Lengths}
-use Rattle.shape.specs.declared.Lengths.the-variants.{Whole}
-use Rattle.shape.specs.Shapes.{Shaped}
 use Rattle.shape.specs.Rings.{sizeOf, sizeIn}
-use Rattle.shape.proofs.Limits.{limits}
-use Rattle.shape.proofs.Rings.{size-in, size-most}
+use Rattle.shape.proofs.Rings.{size-in}
 use Rattle.calls.specs.declared.Checked.{Checked}
 use Rattle.calls.specs.declared.Checked.the-variants.{Strip}
 use Rattle.calls.specs.Refusals.{ringFault}
 use Rattle.calls.specs.Checks.{Checks}
 use Rattle.calls.proofs.Checks.{passed, StripIs, strip-is}
-
--- the short ring's places are no more than the strip's
-pub count-fits : {s : DS.Strip} → Shaped s → s .n * howMany (s .k) (s .n) ≤ 2 ^ 60
-count-fits {s} h = let r = limits h in omega (arith, size-most Whole (s .k) (s .n) (r .two) (r .some), r .range)
 
 module _ (lengths : Lengths) (k n : ℕ) (p : ℕ) where
   pub place-large : sizeOf lengths k n ≤ p → when (leb (sizeOf lengths k n) p) 4 ≡ 4

@@ -2,35 +2,24 @@
 use mathlib.Core.Path.{_≡_, sym, _∙_, ap, ap₂, subst}
 use mathlib.Core.List.{List, _++_}
 use mathlib.Core.Logic.{_≢_}
-use Prim.Native.Nat.{ℕ, _+_, _-_, _*_, _^_, _≤_, _<_}
+use Prim.Native.Nat.{ℕ, _+_, _-_, _*_, _≤_, _<_}
 use native.Mathlib.Omega.{arith}
-use native.Mathlib.Nat.{mul-le-mul-left}
 use lib.Dec.{eqb, ltb}
 use lib.ListN.{length, take, drop, replicate, length-append, length-drop, length-replicate}
 use lib.Seq.{take-at}
 use borrow.Author.Tests.{lt-ltb, le-ltb, ne-eqb}
-use Rattle.theory.specs.Words.{pick, turned, smallest, leastTurn, root, howMany, rank}
+use Rattle.theory.specs.Words.{pick, turned, smallest, leastTurn, root, rank}
 use Rattle.theory.specs.Shorts.{shortSize, shortPlaceOf}
 use Rattle.theory.proofs.Base.{upto, over, split}
 use Rattle.theory.proofs.Letters.{marks-append, marks-drop, marks-replicate}
 use Rattle.theory.proofs.Turns.{least-turn-smallest, least-turn-root}
 use Rattle.theory.proofs.Necklaces.{smallest-length, smallest-marks}
-use Rattle.theory.proofs.Levels.{rank-most}
 use Rattle.theory.proofs.ShortPlaces.{short-place}
 use Rattle.shape.specs.declared.Strip as DS
-use Rattle.shape.specs.declared.Lengths.the-variants.{Whole}
-use Rattle.shape.specs.Shapes.{Shaped, WordOn}
+use Rattle.shape.specs.Shapes.{WordOn}
 use Rattle.shape.proofs.Limits.{limits}
-use Rattle.shape.proofs.Rings.{size-most}
 use Rattle.locator.specs.Fits.{leading, cleared}
 use Rattle.locator.proofs.Leading.{leading-upto}
-
--- so many words have no more letters than the strip
-pub words-fit : {s : DS.Strip} {words : ℕ} → Shaped s → words ≤ howMany (s .k) (s .n) → s .n * words ≤ 2 ^ 60
-words-fit {s} h l = let r = limits h in omega (arith, mul-le-mul-left (s .n) l, size-most Whole (s .k) (s .n) (r .two) (r .some), r .range)
-
-pub rank-counted : {s : DS.Strip} {v : List ℕ} → WordOn s v → rank (s .k) v ≤ howMany (s .k) (s .n)
-rank-counted {s} {v} h = subst (λ m. rank (s .k) v ≤ howMany (s .k) m) (h .long) (rank-most (s .k) v)
 
 module _ {s : DS.Strip} {w : List ℕ} (on : WordOn s w) (primitive : root w ≡ s .n) {turn : ℕ} (least : turn ≡ leastTurn w) where
   abbrev k : ℕ

@@ -3,9 +3,8 @@ use mathlib.Core.Path.{refl, sym, _∙_, ap}
 use Prim.Native.Nat.{_*_, _^_}
 use native.Mathlib.Omega.{arith}
 use borrow.Author.Needs.{needs}
-use Rattle.ranks.proofs.Shapes.{counted}
+use Rattle.ranks.proofs.Shapes.{counted, words-fit, rank-counted}
 use Rattle.access.specs.Holders.{endIn}
-use Rattle.access.proofs.Ending.{rank-fits}
 use Rattle.access.proofs.end_of.Statement.{statement}
 use Rattle.access.proofs.end_of.Tie as tie
 
@@ -33,7 +32,7 @@ of-prenecklace-requires c κs = search needs
 mul-result : tie.Need-mul-result
 mul-result c =
     let f = c .before .before .before .before .before .before .before in
-    omega (arith, rank-fits (f .pre .0), ap (λ r. f .args .s .n * r) (c .before .before .of-prenecklace .ensures .0))
+    omega (arith, words-fit (f .pre .0 .shaped) (rank-counted (f .pre .0)), ap (λ r. f .args .s .n * r) (c .before .before .of-prenecklace .ensures .0))
 
 returns : tie.Need-returns
 returns c =

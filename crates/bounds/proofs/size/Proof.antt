@@ -2,9 +2,11 @@
 use mathlib.Core.Path.{sym, _∙_, ap}
 use Prim.Native.Nat.{_*_}
 use native.Mathlib.Omega.{arith}
+use native.Mathlib.Nat.{le-refl}
 use borrow.Author.Needs.{needs}
+use Rattle.theory.specs.Words.{howMany}
 use Rattle.shape.specs.Rings.{sizeIn}
-use Rattle.bounds.proofs.Places.{count-fits}
+use Rattle.ranks.proofs.Shapes.{words-fit}
 use Rattle.bounds.proofs.size.Statement.{statement}
 use Rattle.bounds.proofs.size.Tie as tie
 
@@ -20,7 +22,7 @@ count-requires c κs = search needs
 mul-result : tie.Need-mul-result
 mul-result c =
     let f = c .before .before .before .before in
-    omega (arith, count-fits (f .pre), ap (λ r. f .args .s .n * r) (c .before .count .ensures))
+    omega (arith, words-fit (f .pre) (le-refl (howMany (f .args .s .k) (f .args .s .n))), ap (λ r. f .args .s .n * r) (c .before .count .ensures))
 
 returns : tie.Need-returns
 returns c = search needs

@@ -6,7 +6,7 @@ use borrow.Author.Tests.{eq-eqb, ne-eqb}
 use borrow.Author.Needs.{needs}
 use Rattle.theory.specs.Words.{pick}
 use Rattle.theory.specs.Shorts.{shortSize}
-use Rattle.short.proofs.Placing.{words-fit}
+use Rattle.ranks.proofs.Shapes.{words-fit}
 use Rattle.short.proofs.end_of.Statement.{statement}
 use Rattle.short.proofs.end_of.Tie as tie
 

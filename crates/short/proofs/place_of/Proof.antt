@@ -12,7 +12,8 @@ use Rattle.theory.proofs.Necklaces.{smallest-length}
 use Rattle.buffers.proofs.Bytes.{over-whole}
 use Rattle.shape.proofs.Limits.{limits}
 use Rattle.locator.specs.Fits.{cleared}
-use Rattle.short.proofs.Placing.{rank-counted, turn-short, base-on, own-front, first-end}
+use Rattle.ranks.proofs.Shapes.{rank-counted}
+use Rattle.short.proofs.Placing.{turn-short, base-on, own-front, first-end}
 use Rattle.short.proofs.place_of.Statement.{statement}
 use Rattle.short.proofs.place_of.Tie as tie
 
