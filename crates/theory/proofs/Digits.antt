@@ -1,6 +1,6 @@
 -- A word found letter by letter, seen from the word: which letters keep a prenecklace one, and that p c z z .. is not below a word that
 -- begins with p just when c is not below its next letter. So a count that tells whether a word is reached tells each letter of it.
-use mathlib.Core.Path.{◌≡◌, sym, ◌∙◌, ap, subst}
+use mathlib.Core.Path.{◌≡◌, refl, sym, ◌∙◌, ap, subst}
 use mathlib.Core.Bool.{true}
 use mathlib.Core.List.{List, [], ◌∷◌, ◌++◌}
 use mathlib.Core.Logic.{◌↔◌}
@@ -9,7 +9,7 @@ use native.Mathlib.Omega.{arith}
 use lib.ListN.{length, replicate, length-append}
 use Rattle.theory.specs.Words.{how_many, rank, word_of, marks_ok, is_lyndon}
 use Rattle.theory.proofs.Base.{less, equal, more, cmp, levi, longer, shorter}
-use Rattle.theory.proofs.Order.{Le, sooner, further, le_prefix, le_not_lt, not_lt, cut_lt, cut_at_letter}
+use Rattle.theory.proofs.Order.{Le, sooner, further, le_prefix, le_not_lt, not_lt, cut_lt, cut_tail, cut_at_letter}
 use Rattle.theory.proofs.Letters.{marks_head, marks_tail}
 use Rattle.theory.specs.Prenecklaces.{Cut, differ, agree, Prenecklace}
 use Rattle.theory.proofs.Ranks.{undone}
@@ -26,9 +26,8 @@ top_cut z m [] w h k i c = absurd (none i w k c)
       where
         tops : (i m : ℕ) → ¬ Cut (z ∷ replicate i z) (replicate m z)
         tops i zero c = elim c [ ]
-        tops i (suc m) (differ l) = omega arith
-        tops zero (suc m) (agree c) = elim c [ ]
-        tops (suc i) (suc m) (agree c) = tops i m c
+        tops zero (suc m) c = elim (cut_tail c refl) [ ]
+        tops (suc i) (suc m) c = tops i m (cut_tail c refl)
     none (suc i) (b ∷ w) k (differ l) = omega (arith, marks_head (suc z) b w k)
     none (suc i) (b ∷ w) k (agree c) = none i w (marks_tail (suc z) b w k) c
 top_cut z m (a ∷ t) [] h k i c = absurd (omega arith)

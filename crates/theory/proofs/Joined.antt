@@ -95,7 +95,7 @@ first_least s (here e) = eq_le (sym e)
 first_least {u} s {y} (there i) = lt_le (below_lt u y (s.0 y i))
 
 last_most : (a : List (List ℕ)) {v : List ℕ} → Ascending (a ++ (v ∷ [])) → {y : List ℕ} → In y (a ++ (v ∷ [])) → Le y v
-last_most a s {y} i = elim (in_append_cases a i) [ inl j ↦ lt_le (ascend_before a [] s y j) | inr (here e) ↦ eq_le e ]
+last_most a s {y} i = elim (in_append_cases a i) [ inl j ↦ lt_le (ascend_before a [] s y j) | inr (here e) ↦ eq_le e | inr (there j) ↦ elim j [ ] ]
 
 after_last : (a : List (List ℕ)) (w : List ℕ) → Ascending (a ++ (w ∷ [])) → After w (a ++ (w ∷ [])) (length (joined a)) (get_or (a ++ (w ∷ [])) 0 [])
 after_last [] w t = around (here refl) (λ y i. (first_least t i, last_most [] t i)) (before_is [] w [] t) (omega (arith, length-append w []))

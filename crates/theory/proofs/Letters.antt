@@ -16,6 +16,7 @@ use Rattle.theory.proofs.Base.{and_l, and_r, and_in}
 use Rattle.theory.proofs.Lists.{in_append_left, in_append_right, in_append_cases, take_in, drop_in, getD_in}
 
 pub marks_in : (k : ℕ) (w : List ℕ) → marks_ok k w ≡ true → (a : ℕ) → In a w → a < k
+marks_in k [] h a i = elim i [ ]
 marks_in k (b ∷ w) h a (here e) = subst (λ r. r < k) (sym e) (ltb-true b k (and_l (ltb b k) (marks_ok k w) h))
 marks_in k (b ∷ w) h a (there i) = marks_in k w (and_r (ltb b k) (marks_ok k w) h) a i
 

@@ -96,7 +96,7 @@ module _ {A : Type 0} where
     | inr j ↦ let r = keep_in f xs j in (there r.0, r.1)
   ]
 
-  pub in_keep : (f : A → Bool) {xs : List A} {x : A} → In x xs → f x ≡ true → In x (keep f xs)
+  pub in_keep : (f : A → Bool) {x : A} {xs : List A} → In x xs → f x ≡ true → In x (keep f xs)
   in_keep f {x = x} (here {y = y} e) h = let t : f y ≡ true = ap f (sym e) ∙ h in rw t (here e)
   in_keep f {x = x} (there {y = y} {ys = ys} i) h = in_append_right (pick (f y) (y ∷ []) []) (in_keep f i h)
 
@@ -191,7 +191,7 @@ module _ {A B : Type 0} where
   each_in f (x ∷ xs) (here e) = image x (here refl) e
   each_in f (x ∷ xs) (there i) = elim (each_in f xs i) [ image z j e ↦ image z (there j) e ]
 
-  pub in_each : (f : A → B) {xs : List A} {x : A} → In x xs → In (f x) (each f xs)
+  pub in_each : (f : A → B) {x : A} {xs : List A} → In x xs → In (f x) (each f xs)
   in_each f (here e) = here (ap f e)
   in_each f (there i) = there (in_each f i)
 
@@ -220,7 +220,7 @@ module _ {A B : Type 0} where
     | inr j ↦ elim (gather_in f xs j) [ gathered z l m ↦ gathered z (there l) m ]
   ]
 
-  pub in_gather : (f : A → List B) {xs : List A} {x : A} {y : B} → In x xs → In y (f x) → In y (gather f xs)
+  pub in_gather : (f : A → List B) {x : A} {xs : List A} {y : B} → In x xs → In y (f x) → In y (gather f xs)
   in_gather f {y = y} (here {ys = ys} e) j = in_append_left (gather f ys) (subst (λ r. In y (f r)) e j)
   in_gather f (there {y = z} i) j = in_append_right (f z) (in_gather f i j)
 

@@ -1,7 +1,7 @@
 -- Dictionary order as relations on words: Lt, Le, Cut (a letter decides), Prefix. The one interface to `same`, `below`, `up_to`.
 use mathlib.Core.Path.{◌≡◌, refl, sym, ◌∙◌, ap, subst, subst₂}
 use mathlib.Core.Bool.{true, false, false≢true}
-use mathlib.Core.List.{List, [], ◌∷◌, ◌++◌, append_assoc, append-nil}
+use mathlib.Core.List.{List, [], ◌∷◌, ◌++◌, append_assoc, append-nil, head-eq_of_cons-eq, tail-eq_of_cons-eq}
 use mathlib.Core.Logic.{◌⊎◌, inl, inr}
 use Prim.Native.Nat.{ℕ, ◌+◌, ◌≤◌, ◌<◌}
 use native.Mathlib.Omega.{arith}
@@ -69,9 +69,13 @@ below_lt (x ∷ u) (y ∷ v) h = elim (cmp x y) [ less l ↦ now l | equal l ↦
         absurd (false≢true g)
 
 -- strict order
+lt_apart : {u v : List ℕ} → Lt u v → ¬ (u ≡ v)
+lt_apart short e = cc
+lt_apart (now h) e = omega (arith, head-eq_of_cons-eq e)
+lt_apart (later p) e = lt_apart p (tail-eq_of_cons-eq e)
+
 pub lt_irrefl : {u : List ℕ} → ¬ Lt u u
-lt_irrefl (now h) = omega arith
-lt_irrefl (later p) = lt_irrefl p
+lt_irrefl p = lt_apart p refl
 
 pub lt_trans : {u v w : List ℕ} → Lt u v → Lt v w → Lt u w
 lt_trans short (now h) = short
@@ -157,10 +161,13 @@ pub lt_not_up_to : {u v : List ℕ} → Lt v u → up_to u v ≡ false
 lt_not_up_to {u} {v} p = elim (test (up_to u v)) [ inl t ↦ absurd (le_not_lt (up_to_le u v t) p) | inr t ↦ t ]
 
 -- a common prefix
+lt_tail : {x y : ℕ} {u v : List ℕ} → Lt (x ∷ u) (y ∷ v) → x ≡ y → Lt u v
+lt_tail (now h) e = absurd (omega arith)
+lt_tail (later h) e = h
+
 pub lt_unprefix : (p : List ℕ) {u v : List ℕ} → Lt (p ++ u) (p ++ v) → Lt u v
 lt_unprefix [] h = h
-lt_unprefix (x ∷ p) (now h) = absurd (omega arith)
-lt_unprefix (x ∷ p) (later h) = lt_unprefix p h
+lt_unprefix (x ∷ p) h = lt_unprefix p (lt_tail h refl)
 
 pub le_prefix : (p : List ℕ) {u v : List ℕ} → Le u v → Le (p ++ u) (p ++ v)
 le_prefix [] h = h
@@ -193,10 +200,13 @@ pub cut_prefix : (p : List ℕ) {u v : List ℕ} → Cut u v → Cut (p ++ u) (p
 cut_prefix [] h = h
 cut_prefix (x ∷ p) h = agree (cut_prefix p h)
 
+pub cut_tail : {x y : ℕ} {u v : List ℕ} → Cut (x ∷ u) (y ∷ v) → x ≡ y → Cut u v
+cut_tail (differ h) e = absurd (omega arith)
+cut_tail (agree h) e = h
+
 pub cut_unprefix : (p : List ℕ) {u v : List ℕ} → Cut (p ++ u) (p ++ v) → Cut u v
 cut_unprefix [] h = h
-cut_unprefix (x ∷ p) (differ h) = absurd (omega arith)
-cut_unprefix (x ∷ p) (agree h) = cut_unprefix p h
+cut_unprefix (x ∷ p) h = cut_unprefix p (cut_tail h refl)
 
 pub lt_cut : {u v : List ℕ} → Lt u v → length v ≤ length u → Cut u v
 lt_cut short e = absurd (omega arith)

@@ -36,6 +36,7 @@ least_letter_is (suc l) a f p m z h = elim (test (f (p ++ (a ∷ replicate m z))
 
 -- u cut below p c, but not below p: u is p and a smaller letter
 pub cut_snoc : (p : List ℕ) (c : ℕ) {u : List ℕ} → Cut u (p ++ (c ∷ [])) → ¬ Cut u p → (b : ℕ) × (s : List ℕ) × (u ≡ p ++ (b ∷ s)) × (b < c)
+cut_snoc [] c {u = []} h n = elim h [ ]
 cut_snoc [] c {u = x ∷ u} (differ h) n = (x, u, refl, h)
 cut_snoc [] c {u = x ∷ u} (agree h) n = absurd (nothing h)
   where

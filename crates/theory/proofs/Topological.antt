@@ -55,6 +55,7 @@ module _ (a b : ℕ) where
 
 -- all pairs kept, as a test
 keeps_in : (ps : List Pair) (xs : List ℕ) → keeps_all ps xs ≡ true → (p : Pair) → In p ps → ahead p.first p.second xs ≡ true
+keeps_in [] xs h p i = elim i [ ]
 keeps_in (q ∷ ps) xs h p (here e) = rw e (and_l _ _ h)
 keeps_in (q ∷ ps) xs h p (there i) = keeps_in ps xs (and_r (ahead q.first q.second xs) _ h) p i
 
@@ -64,6 +65,7 @@ in_keeps (p ∷ ps) xs h = and_in (h p (here refl)) (in_keeps ps xs (λ q i. h q
 
 -- a pair's numbers, where all are known
 pub known_in : (m : ℕ) (ps : List Pair) → known m ps ≡ true → (p : Pair) → In p ps → (p.first < m) × (p.second < m)
+known_in m [] h p i = elim i [ ]
 known_in m (q ∷ ps) h p (here e) = rw e (ltb-true _ _ (and_l _ _ h), ltb-true _ _ (and_l _ _ (and_r (ltb q.first m) _ h)))
 known_in m (q ∷ ps) h p (there i) = known_in m ps (and_r (ltb q.second m) _ (and_r (ltb q.first m) _ h)) p i
 
@@ -124,6 +126,7 @@ module _ (ps : List Pair) (f : ℕ → Bool) where
   ]
 
   in_waits : (p : Pair) (qs : List Pair) → In p qs → f p.first ≡ false → waits qs f p.second ≡ true
+  in_waits p [] i g = elim i [ ]
   in_waits p (q ∷ qs) (here e) g = let t : f q.first ≡ false = ap (λ r. f r.first) (sym e) ∙ g in rw (eq-eqb p.second q.second (ap (λ r. r.second) e), t)
   in_waits p (q ∷ qs) (there i) g = or_right (eqb p.second q.second && not (f q.first)) _ (in_waits p qs i g)
 

@@ -70,6 +70,7 @@ words_in (suc n) k (w ∷ ws) {v} i = elim (in_append_cases (w ∷ words_from n 
 
 in_words : (n k : ℕ) (ws : List (List ℕ)) (w t : List ℕ) → In w ws → length t < n → marks_ok k t ≡ true → In (w ++ t) (words_from n k ws)
 in_words zero k ws w t i l h = absurd (omega arith)
+in_words (suc n) k [] w t i l h = elim i [ ]
 in_words (suc n) k (u ∷ ws) w [] (here e) l h = here (append-nil w ∙ e)
 in_words (suc n) k (u ∷ ws) w (c ∷ t) (here e) l h =
     let p : c < k = marks_head k c t h in
