@@ -1,4 +1,6 @@
 // The word of a ring that holds a position, the letters from there on, and back from a word to its position.
+#![tactic(auto)]
+
 ghost use Rattle.std.specs.Prelude.{◌≡◌, ◌≤◌, ◌<◌, length, take};
 ghost use Rattle.theory.specs.Lists.{Scratch};
 ghost use Rattle.theory.specs.Steps.{extension};

@@ -1,5 +1,7 @@
 // Path counts of document 004's automaton in one table, and the sizes of CS that they give. The table is lent by the caller as scratch: what it
 // held before does not count, and what it holds then is not promised, so the same one may be lent again.
+#![tactic(auto)]
+
 ghost use Rattle.std.specs.Prelude.{◌≡◌, ◌^◌, ◌≤◌, ◌<◌, length};
 ghost use Rattle.theory.specs.Sums.{cs};
 ghost use Rattle.theory.specs.Lists.{Scratch};

@@ -1,4 +1,6 @@
 // How many places a ring has, and whether a place is one of them.
+#![tactic(auto)]
+
 ghost use Rattle.std.specs.Prelude.{◌≡◌};
 ghost use Rattle.shape.specs.Shapes.{Shaped};
 ghost use Rattle.shape.specs.Rings.{size_in};

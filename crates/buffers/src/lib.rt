@@ -1,4 +1,6 @@
 // Bytes copied to the start of a buffer that the caller lends, and one byte up to its end.
+#![tactic(auto)]
+
 ghost use Rattle.std.specs.Prelude.{◌≡◌, ◌≤◌, length};
 ghost use Rattle.theory.specs.Words.{turned};
 ghost use Rattle.buffers.specs.Buffers.{over, filled};

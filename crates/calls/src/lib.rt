@@ -1,4 +1,6 @@
 // What all calls share: the numbers of refusals, arguments that are checked before a call goes on, and numbers as answers.
+#![tactic(auto)]
+
 ghost use Rattle.theory.specs.Strips.{strip_fault};
 ghost use Rattle.calls.specs.Refusals.{the_word_fault};
 ghost use Rattle.calls.specs.Checks.{Checks};

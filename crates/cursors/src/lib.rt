@@ -1,5 +1,7 @@
 // Cursors: a strip, a word of it that is held, and a place in that word. A cursor starts at any place of a ring, the strip or the short ring, and
 // steps along it from mark to mark, on or back. It does not say which ring: each call does.
+#![tactic(auto)]
+
 ghost use Rattle.std.specs.Prelude.{◌≡◌, true, ◌&&◌, ◌<◌};
 ghost use Rattle.theory.specs.Rings.{cursor_on, good_in, position_in, step_in, back_in};
 ghost use Rattle.shape.specs.Shapes.{Shaped};

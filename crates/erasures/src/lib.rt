@@ -1,5 +1,7 @@
 // Windows with erasures, the paper's smudged windows: byte 255 stands for a mark that the head could not read. What is refused of one, and the words
 // that it may stand for, which are its fillings.
+#![tactic(auto)]
+
 ghost use Rattle.std.specs.Prelude.{◌≡◌, ◌^◌, ◌≤◌, length};
 ghost use Rattle.theory.specs.Words.{keep, marks_ok};
 ghost use Rattle.theory.specs.Erasures.{unread, read, filling, smudge_fault};

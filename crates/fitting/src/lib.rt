@@ -1,4 +1,6 @@
 // The search for the lowest laid window that agrees with one that has erasures: all its fillings are tried, each at its place.
+#![tactic(auto)]
+
 ghost use Rattle.std.specs.Prelude.{◌≡◌};
 ghost use Rattle.theory.specs.Strips.{place_of};
 ghost use Rattle.theory.specs.Erasures.{filling};

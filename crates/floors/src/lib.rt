@@ -1,4 +1,6 @@
 // The largest necklace below a word, and the largest not above it, in place of the word.
+#![tactic(auto)]
+
 ghost use Rattle.std.specs.Prelude.{◌≡◌};
 ghost use Rattle.theory.specs.Floors.{necklace_up_to, necklace_below};
 ghost use Rattle.lyndon.specs.Letters.{Lettered};

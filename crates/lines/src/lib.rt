@@ -1,4 +1,6 @@
 // Lines that programs print: the one line of a refusal, and the bytes that hold any line.
+#![tactic(auto)]
+
 ghost use Rattle.std.specs.Prelude.{◌≤◌, length};
 ghost use Rattle.texts.specs.Texts.{Adds};
 ghost use Rattle.lines.specs.Lines.{line, refused_line};

@@ -1,4 +1,6 @@
 // The listing of a plan: the line of its strip and a line for each section, or the one line of a refusal.
+#![tactic(auto)]
+
 ghost use Rattle.std.specs.Prelude.{◌+◌, ◌≤◌, ◌<◌, length};
 ghost use Rattle.theory.specs.Plans.{sections};
 ghost use Rattle.shape.specs.Shapes.{Shaped};

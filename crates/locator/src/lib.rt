@@ -1,4 +1,6 @@
 // The place of a window: a word of the strip whose letters, with those that follow, hold it, and where it stands in them.
+#![tactic(auto)]
+
 ghost use Rattle.std.specs.Prelude.{◌≡◌, ◌-◌, ◌≤◌, eqb, length};
 ghost use Rattle.theory.specs.Words.{pick};
 ghost use Rattle.theory.specs.Strips.{place_of};

@@ -1,5 +1,7 @@
 // Calls on a laying plan: is it accepted, and in which section of it is a window read, also one with marks that could not be read? A faulty argument
 // gets its number from the table of refusals, and every tray is then as it was.
+#![tactic(auto)]
+
 ghost use Rattle.plans.specs.Opened.{Accepted};
 ghost use Rattle.calls.specs.Answers.{Into};
 ghost use Rattle.lookups.specs.Says.{answer_at, LaidIn, PlanSays, LookupSays, SmudgedSays};

@@ -1,4 +1,6 @@
 // Tests of a word: are its letters below k, is it a Lyndon word, is it a necklace? And the length of the Lyndon word that it extends.
+#![tactic(auto)]
+
 ghost use Rattle.std.specs.Prelude.{◌≡◌};
 ghost use Rattle.theory.specs.Words.{marks_ok, is_lyndon};
 ghost use Rattle.theory.specs.Steps.{pre_period};

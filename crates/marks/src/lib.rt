@@ -1,5 +1,7 @@
 // Calls on the marks of a strip, and of its short ring: the mark at a place, the place of a window of marks, the marks from a place on. A faulty
 // argument gets its number from the table of refusals, and every tray is then as it was.
+#![tactic(auto)]
+
 ghost use Rattle.marks.specs.Says.{MarkOn, PrintOn, MarkSays, PlaceSays, PrintSays, ShortMarkSays, ShortPlaceSays, ShortPrintSays};
 
 use calls::{Checked, refusals};

@@ -1,5 +1,7 @@
 // Calls that tell how near a laid window is to others: which changes of one mark, as by misreading it, give a laid window too. A faulty argument gets its
 // number from the table of refusals, and every tray is then as it was.
+#![tactic(auto)]
+
 ghost use Rattle.std.specs.Prelude.{◌≡◌};
 ghost use Rattle.theory.specs.Words.{first_of};
 ghost use Rattle.theory.specs.Plans.{lookup_fault};

@@ -1,4 +1,6 @@
 // Möbius values and the signed sum over the divisors of a number (document 004, section 3).
+#![tactic(auto)]
+
 ghost use Rattle.std.specs.Prelude.{◌≡◌, ◌^◌, ◌≤◌, pos, length, get_or};
 ghost use Rattle.theory.specs.Sums.{mobius, divisors_in, running};
 ghost use Rattle.moebius.specs.Summands.{summand, Summable, Powers};

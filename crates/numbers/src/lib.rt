@@ -1,4 +1,6 @@
 // Numbers in bytes, the highest first: written over the start of a buffer, and read where they begin.
+#![tactic(auto)]
+
 ghost use Rattle.std.specs.Prelude.{◌≡◌, ◌+◌, ◌*◌, ◌^◌, ◌≤◌, ◌<◌, length};
 ghost use Rattle.theory.specs.Plans.{be};
 ghost use Rattle.buffers.specs.Buffers.{over};

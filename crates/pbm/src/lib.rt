@@ -1,4 +1,6 @@
 // A picture of marks as a plain PBM file: its head, its row, which is the same each time, and the whole file.
+#![tactic(auto)]
+
 ghost use Rattle.std.specs.Prelude.{◌≡◌, true, ◌+◌, ◌≤◌, ◌<◌, length, drop};
 ghost use Rattle.theory.specs.Words.{marks_ok};
 ghost use Rattle.theory.specs.Strips.{marks_from};

@@ -1,5 +1,7 @@
 // Calls on pictures of a strip of two shades: the file whole, in a tray, and in parts, for a program that prints it. A faulty argument gets its
 // number from the table of refusals, and every tray is then as it was.
+#![tactic(auto)]
+
 ghost use Rattle.std.specs.Prelude.{◌≡◌};
 ghost use Rattle.calls.specs.Refusals.{framed, picture_fault};
 ghost use Rattle.calls.specs.Checks.{Checks};

@@ -1,4 +1,6 @@
 // Laying plans: is one accepted, and which of its sections is the window at a place laid in?
+#![tactic(auto)]
+
 ghost use Rattle.std.specs.Prelude.{◌≡◌, false, ◌^◌, ◌<◌};
 ghost use Rattle.theory.specs.Plans.{end_of, torn, straight_from, sections, plan_fault, welded, laying_at};
 ghost use Rattle.sections.specs.Read.{section_of};

@@ -1,5 +1,7 @@
 // Calls on the Lyndon words of a length, in dictionary order: how many there are, the rank of a word, the word of an index. A faulty argument
 // gets its number from the table of refusals, and every tray is then as it was.
+#![tactic(auto)]
+
 ghost use Rattle.calls.specs.Refusals.{index_fault};
 ghost use Rattle.calls.specs.Checks.{Checks};
 ghost use Rattle.ranking.specs.Says.{ManySays, RankSays, WordSays};

@@ -1,4 +1,6 @@
 // Ranks of words, the sizes of CS behind them, and the number of Lyndon words.
+#![tactic(auto)]
+
 ghost use Rattle.std.specs.Prelude.{◌≡◌, ◌*◌, pos, length};
 ghost use Rattle.theory.specs.Words.{rank, how_many};
 ghost use Rattle.theory.specs.Floors.{necklace_up_to};

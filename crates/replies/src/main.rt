@@ -11,6 +11,8 @@
 //     c  a cursor: k, n, the 60 bytes of its word, long, place                   cursor_place, step, step_cursor, step_back,
 //                                                                                short_cursor_place, short_step, short_step_back
 // tests/replies.py makes asks, and the lines that must come.
+#![tactic(auto)]
+
 ghost use Rattle.std.specs.Prelude.{◌+◌, ◌≤◌, ◌<◌, length};
 
 use calls::Value;

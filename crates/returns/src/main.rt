@@ -1,5 +1,7 @@
 // Walks cursors back along strips, over the start too, and on again, and prints for each step its place, its number, its mark and the words passed; after each
 // walk, whether the cursor is as at first. Then the same on short rings.
+#![tactic(auto)]
+
 use cursors::{Cursor, Started, Stepped};
 
 const STEPS: u64 = 80;

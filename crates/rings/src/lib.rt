@@ -1,4 +1,6 @@
 // Along a ring, the strip or the short ring: is it a word of the ring, the next word, the word before, and the letters from a place on.
+#![tactic(auto)]
+
 ghost use Rattle.std.specs.Prelude.{◌≡◌, ◌≤◌, ◌<◌, [], length, take};
 ghost use Rattle.theory.specs.Lists.{Scratch};
 ghost use Rattle.theory.specs.Rings.{cursor, good_in, position_in};

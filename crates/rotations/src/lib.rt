@@ -1,4 +1,6 @@
 // Rotations and roots of a word: its smallest rotation and the turn to it, the length of its shortest root.
+#![tactic(auto)]
+
 ghost use Rattle.std.specs.Prelude.{◌≡◌, ◌-◌, ◌≤◌, ◌<◌, length, take, drop};
 ghost use Rattle.theory.specs.Words.{same, below, turned, root, smallest, least_turn};
 ghost use Rattle.buffers.specs.Buffers.{over};

@@ -1,5 +1,7 @@
 // Walks cursors along strips, over the end too, and prints for each step its place, its number, its mark, the words passed and what mark_at tells; then the same
 // marks as print_marks gives them. Then the same on short rings.
+#![tactic(auto)]
+
 use cursors::{Cursor, Started, Stepped};
 
 // A number in decimal.

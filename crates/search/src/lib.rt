@@ -1,4 +1,6 @@
 // The search for a word, letter by letter: the Lyndon word of an index, or the necklace that holds a position of the strip.
+#![tactic(auto)]
+
 ghost use Rattle.std.specs.Prelude.{◌≡◌, ◌≤◌, ◌<◌, length};
 ghost use Rattle.theory.specs.Words.{up_to};
 ghost use Rattle.theory.specs.Prenecklaces.{Prenecklace};

@@ -1,4 +1,6 @@
 // The bytes of a laying plan: k, n, how many sections it has, and an entry for each: its offset, its length and, in a new record, its rail.
+#![tactic(auto)]
+
 ghost use Rattle.std.specs.Prelude.{◌≡◌, false, ◌<◌};
 ghost use Rattle.theory.specs.Plans.{torn, sections, section_count, entry_size, nth_s, rail_of};
 ghost use Rattle.sections.specs.Read.{section_of};

@@ -1,4 +1,6 @@
 // The shape of a strip: its letters k, its window length n, its k^n positions.
+#![tactic(auto)]
+
 ghost use Rattle.std.specs.Prelude.{◌≡◌};
 ghost use Rattle.shape.specs.Shapes.{power_of, Makes};
 

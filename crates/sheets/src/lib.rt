@@ -1,5 +1,7 @@
 // The worksheet of a word: a line for each divisor of its length, from the largest down, with the divisor's term in document 004's sum for the rank and the
 // running sum; or the one line of a refusal.
+#![tactic(auto)]
+
 ghost use Rattle.std.specs.Prelude.{◌+◌, ◌≤◌, ◌<◌, length};
 ghost use Rattle.shape.specs.Shapes.{WordOn};
 ghost use Rattle.moebius.specs.Summands.{Summable, summand};

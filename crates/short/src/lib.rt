@@ -1,4 +1,6 @@
 // Windows on the short ring: which are refused, and the place of one, by ranks.
+#![tactic(auto)]
+
 ghost use Rattle.std.specs.Prelude.{◌≡◌, ◌*◌, ◌≤◌, eqb, ltb, length};
 ghost use Rattle.theory.specs.Words.{pick, root, how_many};
 ghost use Rattle.theory.specs.Shorts.{short_size, short_place_of};

@@ -1,4 +1,6 @@
 // The step from one Lyndon word to the next, and to the one before, in a buffer of n letters.
+#![tactic(auto)]
+
 ghost use Rattle.std.specs.Prelude.{◌≡◌, ◌≤◌, length, take, true};
 ghost use Rattle.theory.specs.Words.{is_lyndon};
 ghost use Rattle.theory.specs.Steps.{extension, raised};

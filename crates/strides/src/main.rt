@@ -1,5 +1,7 @@
 // Steps a cursor a million times from the start of each of three strips and prints the sum of the marks and what the words passed make when each is xored to the last.
 // The gate compares this with the model; bench/run times it.
+#![tactic(auto)]
+
 ghost use Rattle.std.specs.Prelude.{◌<◌};
 
 const STEPS: u64 = 1000000;

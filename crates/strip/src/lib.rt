@@ -1,4 +1,6 @@
 // The boundary for C: each call is one line that calls its family, with the family's promise. include/strip.h declares them.
+#![tactic(auto)]
+
 ghost use Rattle.words.specs.Says.{TurnSays};
 ghost use Rattle.ranking.specs.Says.{RankSays, WordSays};
 ghost use Rattle.marks.specs.Says.{MarkSays, PlaceSays, PrintSays, ShortMarkSays, ShortPlaceSays, ShortPrintSays};

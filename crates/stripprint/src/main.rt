@@ -1,4 +1,6 @@
 // The program `stripprint`: a request from standard input, its picture to standard output, row by row. Nothing, if there is no such picture.
+#![tactic(auto)]
+
 use libc::{STDIN_FILENO, STDOUT_FILENO};
 
 // The buffer that is read into holds more than a request, so that a longer input is seen.

@@ -1,4 +1,6 @@
 // The program `stripwalk`: a plan from standard input, its listing to standard output.
+#![tactic(auto)]
+
 use libc::{STDIN_FILENO, STDOUT_FILENO};
 
 // The buffer that is read into holds more than the longest plan, so that a longer record is seen to be torn.

@@ -1,5 +1,7 @@
 // The single substitutions of a window that give a laid window, the paper's changes of one mark, as a list of entries over the start of a buffer. Each
 // function writes those of some changes, in their order, and answers how many it wrote.
+#![tactic(auto)]
+
 ghost use Rattle.std.specs.Prelude.{[], ◌∷◌, ◌<◌, length, get_or};
 ghost use Rattle.theory.specs.Substitutions.{change, changes_down, changes_up, changes_at, changes_for, changes};
 ghost use Rattle.substitutions.specs.Entries.{Writes, Wrote};

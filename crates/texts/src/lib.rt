@@ -1,5 +1,7 @@
 // Text added to a buffer: numbers in decimal, letters as digits, bytes as they are. Each call adds behind the `at` bytes of text that are
 // there, and answers how many there are then.
+#![tactic(auto)]
+
 ghost use Rattle.std.specs.Prelude.{◌≡◌, ◌+◌, ◌^◌, ◌≤◌, ◌<◌, nat_abs, length, true, [], ◌∷◌, ◌++◌};
 ghost use Rattle.theory.specs.Words.{marks_ok};
 ghost use Rattle.texts.specs.Texts.{decimal, signed, glyph, glyphs, Adds};

@@ -1,5 +1,7 @@
 // A window looked for in a laying plan: where it is laid, or the number of its refusal. A plan's refusals come first, then the window's own, then that it is
 // not laid.
+#![tactic(auto)]
+
 ghost use Rattle.plans.specs.Opened.{Accepted};
 ghost use Rattle.windows.specs.Looks.{Looks};
 

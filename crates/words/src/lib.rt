@@ -1,5 +1,7 @@
 // Calls on one word: is it a Lyndon word, its smallest rotation and the turn to it, its shortest root. A faulty argument gets its number from
 // the table of refusals, and every tray is then as it was.
+#![tactic(auto)]
+
 ghost use Rattle.words.specs.Says.{LyndonSays, RotationSays, TurnSays, RootSays};
 
 use calls::{Checked, Value, refusals};

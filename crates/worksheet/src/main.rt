@@ -1,4 +1,6 @@
 // The program `worksheet`: k, n and a word from standard input, the worksheet of the word to standard output.
+#![tactic(auto)]
+
 use libc::{STDIN_FILENO, STDOUT_FILENO};
 
 // The buffer that is read into holds more than the longest word, so that a longer one is seen to be too long.
