@@ -1,6 +1,5 @@
 -- The value read from the table is the Möbius value of n. The table stands in the code alone: where `returns` names the values by their definition, antt
 -- computes all sixty and compares them with it.
-use borrow.Author.Rules.{rules}
 use mathlib.Core.Path.{◌≡◌, sym, ◌∙◌, ap}
 use mathlib.Core.List.{List, [], ◌∷◌}
 use Prim.Native.Nat.{ℕ, zero, suc, ◌+◌, ◌-◌, ◌<◌}
@@ -13,8 +12,7 @@ use mir.Val.{to_z, of_z}
 use mir.ValLaws.{to_z-of_z}
 use Rattle.theory.specs.Sums.{mobius}
 use Rattle.moebius.proofs.Signed.{mobius_small, fits8}
-use Rattle.moebius.proofs.moebius.Statement.{statement}
-use Rattle.moebius.proofs.moebius.Tie as tie
+use Rattle.moebius.proofs.moebius.Goals as goal
 
 -- the Möbius values of l numbers from d on
 abbrev valuesFrom : ℕ → ℕ → List ℤ
@@ -26,18 +24,9 @@ value-at zero d i h = absurd (omega arith)
 value-at (suc l) d zero h = ap mobius (sym (add-zero d))
 value-at (suc l) d (suc i) h = value-at l (suc d) i (omega arith) ∙ ap mobius (suc-add d i ∙ sym (add-suc d i))
 
-sub-result : tie.Need-overflow-sub-result
-sub-result c = search rules
-
-array-copy-out-result : tie.Need-array-copy-out-result
-array-copy-out-result c = search rules
-
-returns : tie.Need-returns
+pub returns : goal.returns
 returns c =
-    let n = c.before.args.n in
+    let n = c.args.n in
     let e : 1 + (n - 1) ≡ n = omega arith in
     let read : get_or (valuesFrom 60 1) (n - 1) (pos 0) ≡ mobius n = value-at 60 1 (n - 1) (omega arith) ∙ ap mobius e in
     ap (λ x. to_z w8 (of_z w8 x)) read ∙ to_z-of_z w8 (mobius n) (fits8 (mobius n) (omega (arith, mobius_small n)))
-
-pub moebius_spec : {M : Type 1} → statement M
-moebius_spec = tie.close (tie.spec sub-result array-copy-out-result returns)
