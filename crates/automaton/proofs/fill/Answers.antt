@@ -3,7 +3,7 @@ use Prim.Native.Nat.{◌-◌, ◌*◌}
 use lib.ListN.{length, get_or}
 use native.Mathlib.Omega.{arith}
 use Rattle.automaton.proofs.Filling.{Next, started, begun, full, ended, next}
-use Rattle.automaton.proofs.fill.Goals.{After-shared_slice_known-in-loop-s-1}
+use Rattle.automaton.proofs.fill.Goals.{In-loop-s}
 use Rattle.automaton.proofs.fill.Goals as goal
 
 pub start-requires : goal.start-requires
@@ -16,24 +16,24 @@ pub loop-s-init : goal.loop-s-init
 loop-s-init c = begun _ _ c.requires.0 _ _ _ c.loop-l.invariant (omega arith)
 
 -- a turn of the inner loop
-turn : (c : After-shared_slice_known-in-loop-s-1)
+turn : (c : In-loop-s)
     → Next c.args.k c.args.w.now c.loop-s.t (length c.args.w.now) c.loop-l.l (get_or c.loop-l.t ((c.loop-l.l - 1) * 61) 0) c.loop-s.s
 turn c = next _ _ c.requires.0 _ _ _ _ _ c.loop-s.invariant (omega arith)
 
 pub overflow_cast-larger : goal.overflow_cast-larger
-overflow_cast-larger c = omega (arith, c.shared_slice_known-in-loop-s-1.given c.loop-s.s)
+overflow_cast-larger c = omega (arith, c.type_inv.w c.loop-s.s)
 
 pub overflow_sub-larger-in-loop-s : goal.overflow_sub-larger-in-loop-s
-overflow_sub-larger-in-loop-s c = (turn (goal.at.overflow_sub-larger-in-loop-s c).After-shared_slice_known-in-loop-s-1).letter
+overflow_sub-larger-in-loop-s c = (turn (goal.at.overflow_sub-larger-in-loop-s c).In-loop-s).letter
 
 pub overflow_mul-t-in-loop-s : goal.overflow_mul-t-in-loop-s
-overflow_mul-t-in-loop-s c = omega (arith, (turn (goal.at.overflow_mul-t-in-loop-s c).After-shared_slice_known-in-loop-s-1).fits)
+overflow_mul-t-in-loop-s c = omega (arith, (turn (goal.at.overflow_mul-t-in-loop-s c).In-loop-s).fits)
 
 pub overflow_add-t-in-loop-s-2 : goal.overflow_add-t-in-loop-s-2
-overflow_add-t-in-loop-s-2 c = omega (arith, (turn (goal.at.overflow_add-t-in-loop-s-2 c).After-shared_slice_known-in-loop-s-1).fits)
+overflow_add-t-in-loop-s-2 c = omega (arith, (turn (goal.at.overflow_add-t-in-loop-s-2 c).In-loop-s).fits)
 
 pub loop-s-preserved : goal.loop-s-preserved
-loop-s-preserved c = (turn (goal.at.loop-s-preserved c).After-shared_slice_known-in-loop-s-1).stored
+loop-s-preserved c = (turn (goal.at.loop-s-preserved c).In-loop-s).stored
 
 pub loop-l-preserved : goal.loop-l-preserved
 loop-l-preserved c = ended _ _ c.requires.0 _ _ _ _ _ c.loop-s.invariant (omega arith)
