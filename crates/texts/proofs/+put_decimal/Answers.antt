@@ -1,8 +1,12 @@
 use Prim.Native.Nat.{◌+◌, ◌%◌, ◌≤◌}
 use native.Mathlib.Omega.{arith}
-use Rattle.texts.proofs.Decimals.{decimal_large, decimal_longer}
+use Rattle.texts.proofs.Decimals.{decimal_large, decimal_longer, decimal_some}
 use Rattle.texts.proofs.Adding.{adds_last}
 use Rattle.texts.proofs.+put_decimal.Goals as goal
+
+-- there is room for the digit of a number below 10
+pub bounds-out-at : goal.bounds-out-at
+bounds-out-at t c = omega (arith, c.requires, decimal_some c.args.v)
 
 pub put_decimal-end-requires : goal.put_decimal-end-requires
 put_decimal-end-requires t c =
