@@ -1,6 +1,5 @@
 -- count: the number in the plan's third and fourth byte.
 use native.Mathlib.Omega.{arith}
-use borrow.Author.Rules.{rules}
 use Rattle.theory.proofs.Records.{whole}
 use Rattle.sections.proofs.count.Goals as goal
 

@@ -2,7 +2,6 @@
 use native.Mathlib.Omega.{arith}
 use Rattle.theory.proofs.Records.{whole}
 use Rattle.sections.proofs.Entries.{size_old, size_new}
-use borrow.Author.Rules.{rules}
 use Rattle.sections.proofs.entry_size.Goals as goal
 
 pub overflow_mul-count : goal.overflow_mul-count

@@ -1,5 +1,4 @@
 -- is_torn: the tests of the length, the count and the totals, one after another.
-use borrow.Author.Rules.{rules}
 use Rattle.sections.proofs.Torn.{torn_short, torn_many, whole_old, torn-long}
 use Rattle.sections.proofs.is_torn.Goals as goal
 

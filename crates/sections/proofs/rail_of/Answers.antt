@@ -1,7 +1,6 @@
 -- rail_of: the section's own number, or the rail written with it.
 use mathlib.Core.Path.{◌∙◌, ap}
 use Rattle.sections.proofs.Entries.{rail_own, rail_written}
-use borrow.Author.Rules.{rules}
 use Rattle.sections.proofs.rail_of.Goals as goal
 
 pub returns-then-entry_size-eq-PAIR : goal.returns-then-entry_size-eq-PAIR

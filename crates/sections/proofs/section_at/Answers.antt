@@ -4,7 +4,6 @@ use Prim.Native.Nat.{◌+◌, ◌-◌, ◌*◌}
 use native.Mathlib.Omega.{arith}
 use Rattle.theory.specs.Plans.{be}
 use Rattle.sections.proofs.Entries.{Entry, entry_inside, rail_bytes, section_read}
-use borrow.Author.Rules.{rules}
 use Rattle.sections.proofs.section_at.Goals.{After-entry_size-size, Joined-size-eq-PAIR, then-size-eq-PAIR, else-size-eq-PAIR}
 use Rattle.sections.proofs.section_at.Goals as goal
 
