@@ -11,7 +11,7 @@ pub enum Power {
 }
 
 // A strip that is admitted. `size` is k^n.
-#[derive(Drop)]
+#[derive(Clone, Copy)]
 pub struct Strip {
     pub k: u64,
     pub n: u64,
@@ -19,7 +19,7 @@ pub struct Strip {
 }
 
 // The lengths of the words that a ring joins: all that divide n, which makes the strip, or n alone, which makes the short ring.
-#[derive(Drop)]
+#[derive(Clone, Copy)]
 pub enum Lengths {
     Divisors,
     Whole,
