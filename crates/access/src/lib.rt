@@ -17,7 +17,7 @@ use search::Goal;
 use shape::{Lengths, Strip};
 
 // The held word's length, and the position in it.
-#[derive(Drop)]
+#[derive(Clone, Copy)]
 pub struct Spot {
     pub long: usize,
     pub at: usize,

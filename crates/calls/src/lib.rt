@@ -11,14 +11,14 @@ use shape::{Made, Strip};
 pub mod refusals;
 
 // What a call answers by value: the number of a refusal, or 0 and the value. A refusal's value is 0.
-#[derive(Drop)]
+#[derive(Clone, Copy)]
 pub struct Value {
     pub number: u8,
     pub value: u64,
 }
 
 // Arguments that were checked: the strip that they are about, or the number of the refusal.
-#[derive(Drop)]
+#[derive(Clone, Copy)]
 pub enum Checked {
     Strip(Strip),
     Refused(u8),

@@ -13,7 +13,7 @@ use calls::{Checked, Value, refusals};
 use shape::{Lengths, Strip};
 
 // The held word in the first `long` of 60 bytes with zeros after it; `place` is the place in it.
-#[derive(Drop)]
+#[derive(Clone, Copy)]
 pub struct Cursor {
     pub k: u8,
     pub n: u8,
@@ -22,13 +22,13 @@ pub struct Cursor {
     pub place: u8,
 }
 
-#[derive(Drop)]
+#[derive(Clone, Copy)]
 pub struct Started {
     pub number: u8,
     pub cursor: Cursor,
 }
 
-#[derive(Drop)]
+#[derive(Clone, Copy)]
 pub struct Stepped {
     pub number: u8,
     pub mark: u8,

@@ -9,7 +9,7 @@ ghost use Rattle.fitting.specs.Fits.{Sought, better_of, Finds};
 use shape::Strip;
 
 // The lowest place at which a laid window agrees, or that there is none.
-#[derive(Drop)]
+#[derive(Clone, Copy)]
 pub enum Fit {
     At(u64),
     Nowhere,

@@ -21,7 +21,7 @@ const HEAD: usize = 12;
 pub const MOST: usize = HEAD + 60858;
 
 // A file's parts: where the head ends, where the row behind it does, and how often the row is written.
-#[derive(Drop)]
+#[derive(Clone, Copy)]
 pub struct Parts {
     pub head: usize,
     pub end: usize,

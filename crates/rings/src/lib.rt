@@ -38,7 +38,7 @@ pub fn is_on(lengths: Lengths, k: u64, n: u64, word: &[u8], place: u64) -> bool
 }
 
 // The length of the word that a move leads to, and how many Lyndon words of at most n letters it passes.
-#[derive(Drop)]
+#[derive(Clone, Copy)]
 pub struct Moved {
     pub long: usize,
     pub passed: u64,

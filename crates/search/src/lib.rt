@@ -11,7 +11,7 @@ ghost use Rattle.search.specs.Goals.{Within, goal_word, Searching, Found, letter
 use shape::Strip;
 
 // What is searched for: the Lyndon word of an index, or the necklace that holds a position.
-#[derive(Drop)]
+#[derive(Clone, Copy)]
 pub enum Goal {
     Index(u64),
     Position(u64),

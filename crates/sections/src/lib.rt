@@ -56,7 +56,7 @@ fn entry_size(plan: &[u8]) -> usize
 }
 
 // Where a section begins, its length, and the rail written with it, 0 in an old record.
-#[derive(Drop)]
+#[derive(Clone, Copy)]
 pub struct Section {
     pub offset: u64,
     pub long: u64,

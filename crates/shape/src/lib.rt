@@ -4,7 +4,7 @@
 ghost use Rattle.std.specs.Prelude.{◌≡◌};
 ghost use Rattle.shape.specs.Shapes.{power_of, Makes};
 
-#[derive(Drop)]
+#[derive(Clone, Copy)]
 pub enum Power {
     Is(u64),
     Large,
@@ -25,7 +25,7 @@ pub enum Lengths {
     Whole,
 }
 
-#[derive(Drop)]
+#[derive(Clone, Copy)]
 pub enum Made {
     Fine(Strip),
     Refused,

@@ -9,14 +9,14 @@ use calls::{Checked, refusals};
 use shape::Strip;
 
 // Where a window is laid: the strip of the plan, the window's place on it, and the number of its section, plus 1.
-#[derive(Drop)]
+#[derive(Clone, Copy)]
 pub struct Spot {
     pub strip: Strip,
     pub place: u64,
     pub laying: u64,
 }
 
-#[derive(Drop)]
+#[derive(Clone, Copy)]
 pub enum Looked {
     Laid(Spot),
     Refused(u8),
