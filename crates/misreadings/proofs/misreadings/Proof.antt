@@ -6,7 +6,7 @@ use lib.Seq.{length-take-le}
 use borrow.Author.Rules.{rules}
 use Rattle.theory.specs.Substitutions.{misread}
 use Rattle.buffers.specs.Buffers.{over}
-use Rattle.calls.proofs.Answers.{beside-refused, beside_small, beside-answer}
+use Rattle.calls.proofs.Answers.{beside-refused, beside-small, beside-answer}
 use Rattle.windows.proofs.Looking.{Found, refused_by, found}
 use Rattle.misreadings.specs.Says.{entries_of}
 use Rattle.misreadings.proofs.Listing.{asked, short, fits, how_many_lem, list_long, list_taken}
@@ -51,7 +51,7 @@ returns c =
     let a = (begun (the-look listed.before)).args in
     let s = a.plan.now in
     let w = a.window.now in
-    beside_small (length (misread s w)) (entries_of s w) a.tray.now laid.fine (omega (arith, list_long laid listed.put-list.ensures)) (refl, refl) refl
+    beside-small (length (misread s w)) (entries_of s w) a.tray.now laid.fine (omega (arith, list_long laid listed.put-list.ensures)) (refl, refl) refl
 
 array-share-prefix-room : tie.Need-array-share-prefix-room
 array-share-prefix-room c = let listed = c.before.before in fits (laid-at listed.before) listed.put-list.ensures refl

@@ -4,7 +4,7 @@ use native.Mathlib.Omega.{arith}
 use lib.ListN.{length}
 use borrow.Author.Rules.{rules}
 use Rattle.calls.specs.Refusals.{picture_fault}
-use Rattle.calls.proofs.Answers.{beside-refused-by, beside_small, beside-answer}
+use Rattle.calls.proofs.Answers.{beside-refused-by, beside-small, beside-answer}
 use Rattle.pbm.specs.Pictures.{picture}
 use Rattle.pictures.proofs.Framing.{Passed, checked}
 use Rattle.pictures.proofs.Answering.{drawn_on}
@@ -38,7 +38,7 @@ returns c =
     let at = size.before in
     let a = at.before.before.before.before.before.args in
     let b = picture a.k a.n a.place a.width a.height in
-    beside_small (length b) b a.tray.now (known at).fine (omega (arith, (known at).long, size.size.ensures)) (refl, refl) refl
+    beside-small (length b) b a.tray.now (known at).fine (omega (arith, (known at).long, size.size.ensures)) (refl, refl) refl
 
 write-requires : tie.Need-write-requires
 write-requires c κs =
