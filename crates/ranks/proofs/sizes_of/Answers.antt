@@ -1,0 +1,49 @@
+-- `ranks::sizes_of`: the word is copied and lowered to the largest necklace not above it, whose sizes of CS one table gives.
+use mathlib.Core.Path.{◌≡◌, refl, sym, ◌∙◌, ap, subst}
+use native.Mathlib.Omega.{arith}
+use mathlib.Core.List.{List}
+use Prim.Native.Nat.{ℕ, ◌≤◌}
+use lib.ListN.{length, replicate}
+use Rattle.shape.specs.declared.Strip.{Strip}
+use Rattle.shape.specs.Shapes.{WordOn}
+use lib.Seq.{length-take-le}
+use Rattle.theory.specs.Floors.{necklace_up_to}
+use Rattle.theory.specs.Prenecklaces.{Prenecklace}
+use Rattle.shape.proofs.Limits.{limits}
+use Rattle.automaton.specs.Tables.{cells, Counted, Sized}
+use Rattle.ranks.proofs.Shapes.{counted}
+use Rattle.ranks.proofs.Floored.{copied, lettered, floored}
+use Rattle.ranks.proofs.sizes_of.Goals.{After-copy, After-floor}
+use Rattle.ranks.proofs.sizes_of.Goals as goal
+
+-- the word is no longer than the buffer
+short : {s : Strip} {w : List ℕ} → WordOn s w → length w ≤ 60
+short h = omega (arith, h.long, (limits h.shaped).short)
+
+pub slice_bounds-room-end : goal.slice_bounds-room-end
+slice_bounds-room-end c = short c.requires
+
+pub slice_bounds-v-end : goal.slice_bounds-v-end
+slice_bounds-v-end c = sym (length-take-le {A = ℕ} _ (replicate 60 0) (short c.requires))
+
+pub copy-requires : goal.copy-requires
+copy-requires c = omega (arith, length-take-le {A = ℕ} _ (replicate 60 0) (short c.requires))
+
+-- after the copy: the buffer is the word
+same : (c : After-copy) → c.copy.new.out ≡ c.args.w.now
+same c = copied _ (replicate 60 0) (short c.requires) c.copy.ensures
+
+pub floor-requires : goal.floor-requires
+floor-requires c = lettered c.requires (same (goal.at.floor-requires c).After-copy)
+
+-- after it is lowered
+low : (c : After-floor) → let a = c.args in c.floor.new.w ≡ necklace_up_to a.s.k a.w.now
+low c = c.floor.ensures ∙ ap (necklace_up_to c.args.s.k) (copied _ (replicate 60 0) (short c.requires) c.copy.ensures)
+
+pub sizes-requires : goal.sizes-requires
+sizes-requires c =
+    subst (λ v. Counted c.args.s.k v × Prenecklace v × (3721 ≡ cells)) (sym (low (goal.at.sizes-requires c).After-floor)) (let (on, pre) = floored c.requires in (counted on, pre, refl))
+
+pub returns : goal.returns
+returns c =
+    subst (λ v. Sized c.args.s.k v c.sizes.result) (low (goal.at.returns c).After-floor) c.sizes.ensures.0
