@@ -1,7 +1,6 @@
 -- `sheets::check`: without n there is no strip; else the word's check.
 use mathlib.Core.Path.{subst}
 use native.Mathlib.Omega.{arith}
-use borrow.Author.Rules.{rules}
 use Rattle.calls.specs.Refusals.{the_word_fault}
 use Rattle.calls.specs.Checks.{Checks}
 use Rattle.calls.proofs.Checks.{refused_with}
@@ -13,12 +12,6 @@ pub returns-then-input-lt-WORD : goal.returns-then-input-lt-WORD
 returns-then-input-lt-WORD c =
     let s = c.args.input.now in
     refused_with (sheet_fault s) (letters s) (long s) (short s c.if-input-lt-WORD.true) (λ z. omega arith)
-
-pub overflow_cast-input : goal.overflow_cast-input
-overflow_cast-input c = omega (arith, c.shared_slice_known-2-1.given 0, c.shared_slice_known-2-1.given 1)
-
-pub overflow_cast-input-2 : goal.overflow_cast-input-2
-overflow_cast-input-2 c = omega (arith, c.shared_slice_known-3-1.given 0, c.shared_slice_known-3-1.given 1)
 
 pub returns : goal.returns
 returns c =

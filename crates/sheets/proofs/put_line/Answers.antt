@@ -7,7 +7,6 @@ use lib.IntN.{ℤ, pos, nat_abs}
 use mir.Syntax.{w64}
 use mir.Val.{to_z, of_z}
 use mir.ValLaws.{to_z-of_z}
-use borrow.Author.Rules.{rules}
 use Rattle.theory.specs.Sums.{running, divisors_in}
 use Rattle.moebius.specs.Summands.{summand}
 use Rattle.moebius.proofs.Passed.{entry_small, term_range, sum_range}

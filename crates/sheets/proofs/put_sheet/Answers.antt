@@ -1,15 +1,12 @@
 use mathlib.Core.Path.{◌≡◌, ◌∙◌, ap}
-use Prim.Native.Nat.{◌-◌, ◌*◌, ◌≤◌}
 use native.Mathlib.Omega.{arith}
 use lib.IntN.{pos}
-use borrow.Author.Rules.{rules}
 use Rattle.theory.specs.Sums.{divisors_in}
 use Rattle.shape.proofs.Limits.{limits}
 use Rattle.moebius.specs.Summands.{summand}
 use Rattle.ranks.proofs.Shapes.{sized_summable}
 use Rattle.texts.proofs.Adding.{adds_as}
-use Rattle.lines.specs.Lines.{line}
-use Rattle.lines.proofs.Building.{Written, nothing, next_room, more_line}
+use Rattle.lines.proofs.Building.{nothing, next_room, more_line}
 use Rattle.sheets.specs.Worksheets.{sheet_from}
 use Rattle.sheets.proofs.Rows.{lines_next, sized_sheet}
 use Rattle.sheets.proofs.put_sheet.Goals as goal
