@@ -5,7 +5,8 @@ use Prim.Native.Nat.{ℕ, zero, suc, ◌≤◌, ◌<◌}
 use lib.ListN.{length, drop}
 use borrow.Author.Tests.{lt-ltb, le-ltb, ne_eqb}
 use Rattle.shape.specs.declared.Lengths.{Lengths}
-use Rattle.shape.specs.Rings.{letters_of}
+use Rattle.theory.specs.Rings.{ring}
+use Rattle.shape.specs.Rings.{ok_of, size_of, letters_of}
 use Rattle.theory.proofs.Reading.{letters-length}
 use Rattle.shape.specs.declared.Strip as DS
 use Rattle.calls.specs.Refusals.{ring_fault}
@@ -21,7 +22,7 @@ print_small lengths k n p c t h l e g = rw (h, lt-ltb (length t) c l) (e, g)
 
 -- the marks over the first part of the tray
 pub print_answer : (lengths : Lengths) (k n p c : ℕ) (t : List ℕ) {x : List ℕ} {r : ℕ} → ring_fault lengths k n p ≡ 0 → c ≤ length t → r ≡ 0 → x ≡ letters_of lengths k n p c → PrintOn lengths k n p c t (x ++ drop c t) r
-print_answer lengths k n p c t h l e g = rw (h, le-ltb (length t) c l) (e, ap (λ y. y ++ drop c t) g ∙ ap (λ m. letters_of lengths k n p c ++ drop m t) (sym (letters-length _ _ p c)))
+print_answer lengths k n p c t h l e g = rw (h, le-ltb (length t) c l) (e, ap (λ y. y ++ drop c t) g ∙ ap (λ m. letters_of lengths k n p c ++ drop m t) (sym (letters-length (size_of lengths k n) (ring (ok_of lengths n) k n) p c)))
 
 -- marks of a ring of k and n
 pub marks_on : (lengths : Lengths) (k n p : ℕ) {s : DS.Strip} {x : List ℕ} {l c : ℕ} → StripIs k n s → l ≡ c → x ≡ letters_of lengths s.k s.n p l → x ≡ letters_of lengths k n p c

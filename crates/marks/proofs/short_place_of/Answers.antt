@@ -1,0 +1,29 @@
+-- `short_place_of` puts the place of a window on the short ring into the tray as 8 bytes; a refusal leaves the tray as it was.
+use mathlib.Core.Path.{refl, ◌∙◌, ap₂}
+use borrow.Author.Rules.{rules}
+use Rattle.theory.specs.Shorts.{short_place_of}
+use Rattle.calls.specs.Refusals.{short_window_fault}
+use Rattle.calls.proofs.Checks.{passed}
+use Rattle.short.proofs.Refusing.{window_checked}
+use Rattle.calls.proofs.Answers.{number-refused-by, number-given}
+use Rattle.marks.proofs.short_place_of.Goals as goal
+
+pub place_of-requires : goal.place_of-requires
+place_of-requires c =
+    let a = c.args in
+    let (_, on, primitive) = window_checked a.k a.n a.window.now c.check_window.ensures c.in-Strip.is in
+    (on, primitive)
+
+pub returns-in-Refused : goal.returns-in-Refused
+returns-in-Refused c =
+    let a = c.args in
+    let w = a.window.now in
+    number-refused-by (short_window_fault a.k a.n w) a.k a.n (short_place_of a.k a.n w) a.tray.now c.check_window.ensures c.in-Refused.is refl
+
+pub returns-in-Strip : goal.returns-in-Strip
+returns-in-Strip c =
+    let a = c.args in
+    let w = a.window.now in
+    let none = (passed (short_window_fault a.k a.n w) a.k a.n c.check_window.ensures c.in-Strip.is).0 in
+    let on = (window_checked a.k a.n w c.check_window.ensures c.in-Strip.is).0 in
+    number-given a.tray.now none (c.place_of.ensures ∙ ap₂ (λ k n. short_place_of k n w) on.letters on.marks) c.give.ensures
