@@ -42,7 +42,8 @@ def texts(top, ends):
 
 
 def of_function(path):
-    return os.path.basename(path) in ("Proof.antt", "Answers.antt", "Invariants.antt")
+    """Whether a file is a function's proof, in a folder of its own below proofs/."""
+    return os.path.basename(os.path.dirname(path)) not in ("specs", "proofs")
 
 
 def declared(top):

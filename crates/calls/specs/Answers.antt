@@ -14,12 +14,12 @@ abbrev pub IntoValue : ℕ → ℕ → List ℕ → List ℕ → List ℕ → DV
 IntoValue f v b t t' r = Into f b t t' r.number × (r.value ≡ pick (eqb r.number 0) v 0)
 
 -- a fault, then 6 if a tray is too short for a number
-abbrev pub orShort : ℕ → List ℕ → ℕ
-orShort f s = first_of f (when (ltb (length s) 8) 6)
+abbrev pub or_short : ℕ → List ℕ → ℕ
+or_short f s = first_of f (when (ltb (length s) 8) 6)
 
 -- bytes into a tray, and a value as 8 bytes into one of its own, which holds s at the call and s' at the return; if either is too small, both stay
 abbrev pub IntoBoth : ℕ → ℕ → List ℕ → List ℕ → List ℕ → List ℕ → List ℕ → ℕ → Type 0
-IntoBoth f v b s s' t t' r = let g = orShort f s in Into g (pick (eqb g 0) b []) t t' r × (s' ≡ pick (eqb r 0) (over (put_be 8 v) s) s)
+IntoBoth f v b s s' t t' r = let g = or_short f s in Into g (pick (eqb g 0) b []) t t' r × (s' ≡ pick (eqb r 0) (over (put_be 8 v) s) s)
 
 -- a number as 8 bytes
 abbrev pub Number : ℕ → ℕ → List ℕ → List ℕ → ℕ → Type 0

@@ -14,7 +14,7 @@ use Rattle.theory.proofs.Prices.{alike}
 use Rattle.numbers.specs.Numbers.{put_be}
 use Rattle.calls.specs.declared.Value as DV
 use Rattle.calls.specs.Refusals.{bill_fault}
-use Rattle.calls.proofs.Answers.{or-room}
+use Rattle.calls.proofs.Answers.{or_room}
 use Rattle.prices.proofs.Billing.{bill_small}
 use Rattle.bills.specs.Says.{BillSays, BillOfSays}
 use Rattle.demands.specs.Refused.{AllShort}
@@ -31,7 +31,7 @@ billed_told s p c r good short h g e =
 pub bill_both : (s : List ℕ) (p c : ℕ) (t t' : List ℕ) (r : DV.Value) (q : ℕ) → 8 ≤ length t → BillSays s p c r → BillOfSays s p c t t' q
     → (q ≡ r.number) × (q ≡ 0 → be 0 8 t' ≡ r.value) × (drop 8 t' ≡ drop 8 t)
 bill_both s p c t t' r q room e f =
-    let number : q ≡ r.number = answer_number (bill_answers s p c t t' q f) ∙ or-room (bill_fault s p c) t room ∙ sym e.0 in
+    let number : q ≡ r.number = answer_number (bill_answers s p c t t' q f) ∙ or_room (bill_fault s p c) t room ∙ sym e.0 in
     (number, same, (trays.bill_of s p c t t' q f).2)
   where
     same : q ≡ 0 → be 0 8 t' ≡ r.value

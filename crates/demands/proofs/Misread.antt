@@ -24,7 +24,7 @@ use Rattle.buffers.specs.Buffers.{over}
 use Rattle.numbers.proofs.Numbers.{put-read}
 use Rattle.calls.specs.declared.Value as DV
 use Rattle.calls.specs.Answers.{Into}
-use Rattle.calls.proofs.Answers.{or-room}
+use Rattle.calls.proofs.Answers.{or_room}
 use Rattle.substitutions.specs.Entries.{entry_bytes, list_bytes}
 use Rattle.substitutions.proofs.Writing.{entries_long}
 use Rattle.misreadings.specs.Says.{entries_of, MisreadingsSays, MisreadingListSays}
@@ -123,7 +123,7 @@ misread_answers s p t t' r good laid room e =
 pub misread_both : (s w c c' t t' u : List ℕ) (r : DV.Value) (q : ℕ) → 8 ≤ length c → MisreadingsSays s w t t' r → MisreadingListSays s w c c' t u q
     → (q ≡ r.number) × (u ≡ t') × (q ≡ 0 → be 0 8 c' ≡ r.value)
 misread_both s w c c' t t' u r q room e f =
-    let list : Into (lookup_fault s w) (pick (eqb (lookup_fault s w) 0) (entries_of s w) []) t u q = subst (λ g. Into g (pick (eqb g 0) (entries_of s w) []) t u q) (or-room (lookup_fault s w) c room) f.0 in
+    let list : Into (lookup_fault s w) (pick (eqb (lookup_fault s w) 0) (entries_of s w) []) t u q = subst (λ g. Into g (pick (eqb g 0) (entries_of s w) []) t u q) (or_room (lookup_fault s w) c room) f.0 in
     let number : q ≡ r.number = list.0 ∙ sym e.0.0 in
     (number, list.1 ∙ sym e.0.1, λ z. count list z (sym number ∙ z))
   where

@@ -13,8 +13,8 @@ use Rattle.theory.specs.Plans.{be}
 use Rattle.theory.proofs.Rings.{admitted_range}
 use Rattle.calls.specs.declared.Value as DV
 use Rattle.calls.specs.Refusals.{picture_fault}
-use Rattle.calls.specs.Answers.{orShort}
-use Rattle.calls.proofs.Answers.{or-room}
+use Rattle.calls.specs.Answers.{or_short}
+use Rattle.calls.proofs.Answers.{or_room}
 use Rattle.shape.specs.declared.Lengths.TheVariants.{Divisors}
 use Rattle.marks.specs.Says.{PrintSays}
 use Rattle.pbm.specs.declared.Parts as DP
@@ -54,7 +54,7 @@ module _ (n p c h : ℕ) (a : admitted 2 n ≡ true) (l : p < 2 ^ n) (frame : Fr
   pub picture_both : (s s' t t' : List ℕ) (r : ℕ) → 8 ≤ length s → file_size c h ≤ length t → BothSay 2 n p c h s s' t t' r
       → (r ≡ 0) × (be 0 8 s' ≡ file_size c h) × (take (be 0 8 s') t' ≡ file)
   picture_both s s' t t' r x y e =
-      let (number, is) = into_fine (orShort (picture_fault 2 n p c h) s) file t (or-room (picture_fault 2 n p c h) s x ∙ fine) (omega (arith, size)) e.0 in
+      let (number, is) = into_fine (or_short (picture_fault 2 n p c h) s) file t (or_room (picture_fault 2 n p c h) s x ∙ fine) (omega (arith, size)) e.0 in
       let told : be 0 8 s' ≡ length file = tray_back (length file) s (omega (arith, most 2 n p c h frame.wide frame.high)) (rw number at e).1 in
       (number, told ∙ size, ap₂ take told is ∙ take_at file _ (length file) refl)
 

@@ -26,7 +26,7 @@ use Rattle.theory.proofs.Laying as theory
 use Rattle.theory.proofs.Erasures.{fitting_in, in_fitting}
 use Rattle.theory.proofs.Prices.{short_sections}
 use Rattle.calls.specs.Order.{rule, given}
-use Rattle.calls.specs.Answers.{orShort}
+use Rattle.calls.specs.Answers.{or_short}
 use Rattle.calls.specs.Refusals.{the_word_fault, short_window_fault, index_fault, ring_fault, framed, picture_fault, bill_fault}
 use Rattle.calls.proofs.Order.{given-none, given_first}
 use Rattle.pbm.specs.Pictures.{file_size}
@@ -61,7 +61,7 @@ picture_tray : (k n p c h : ℕ) (small : Bool) → first_of (picture_fault k n 
 picture_tray k n p c h = picture_tray_number (not (admitted k n)) (not (eqb k 2)) (leb (k ^ n) p) (not (framed c h))
 
 -- with two trays
-two_trays : (f : ℕ) (s t : List ℕ) (m : ℕ) → first_of (orShort f s) (when (ltb (length t) m) 6) ≡ first_of f (when (ltb (length s) 8 || ltb (length t) m) 6)
+two_trays : (f : ℕ) (s t : List ℕ) (m : ℕ) → first_of (or_short f s) (when (ltb (length t) m) 6) ≡ first_of f (when (ltb (length s) 8 || ltb (length t) m) 6)
 two_trays f s t m = first_assoc f (when (ltb (length s) 8) 6) (when (ltb (length t) m) 6) ∙ ap (first_of f) (first_either (ltb (length s) 8) (ltb (length t) m) 5)
 
 cursor-given : (lengths : Lengths) (c : DC.Cursor) → fault_on lengths c ≡ given (cursor_rules lengths c)

@@ -30,9 +30,9 @@ use Rattle.numbers.specs.Numbers.{put_be}
 use Rattle.buffers.proofs.Bytes.{over-length}
 use Rattle.numbers.proofs.Numbers.{put-read}
 use Rattle.calls.specs.declared.Value as DV
-use Rattle.calls.specs.Answers.{Into, IntoValue, orShort, IntoBoth, Number, ValueIs}
+use Rattle.calls.specs.Answers.{Into, IntoValue, or_short, IntoBoth, Number, ValueIs}
 use Rattle.calls.specs.Refusals.{the_word_fault, short_window_fault, index_fault, ring_fault, picture_fault, bill_fault}
-use Rattle.calls.proofs.Answers.{number-answer}
+use Rattle.calls.proofs.Answers.{number_answer}
 use Rattle.ranking.proofs.Indexes.{index_range, index_long}
 use Rattle.words.specs.Says.{RotationSays, TurnSays}
 use Rattle.ranking.specs.Says.{RankSays, WordSays}
@@ -175,14 +175,14 @@ picture_answers k n p c h t t' r e = answers (picture k n p c h) (file-long k n 
 value_keeps : (f v : ℕ) (b s s' t t' : List ℕ) (r : ℕ) → IntoBoth f v b s s' t t' r → Keeps 8 s s' r
 value_keeps f v b s s' t t' r e = elim (ℕ_discrete r 0) [
   | yes z ↦
-      let (fine, _) = answered (orShort f s) b t e.0 z in
+      let (fine, _) = answered (or_short f s) b t e.0 z in
       let room : 8 ≤ length s = ltb-false (length s) 8 (when-none _ 6 (λ y. omega arith) (first_none f _ fine).1) in
       let is : s' ≡ over (put_be 8 v) s = (rw z at e).1 in
-      keeps {f = 0} (answers (put_be 8 v) (λ _. refl) (number-answer v s refl room z is))
+      keeps {f = 0} (answers (put_be 8 v) (λ _. refl) (number_answer v s refl room z is))
   | no z ↦ let same : s' ≡ s = (rw (ne_eqb r 0 z) at e).1 in (λ _. same, ap length same, ap (drop 8) same)
 ]
 
-pub picture_of_answers : (k n p c h : ℕ) (s s' t t' : List ℕ) (r : ℕ) → BothSay k n p c h s s' t t' r → Answers (file_size c h) (orShort (picture_fault k n p c h) s) t t' r
+pub picture_of_answers : (k n p c h : ℕ) (s s' t t' : List ℕ) (r : ℕ) → BothSay k n p c h s s' t t' r → Answers (file_size c h) (or_short (picture_fault k n p c h) s) t t' r
 picture_of_answers k n p c h s s' t t' r e = answers (picture k n p c h) (λ z. file-long k n p c h (first_none (picture_fault k n p c h) _ z).0) e.0
 
 pub look_up_answers : (s w t t' : List ℕ) (r : ℕ) → LookupSays s w t t' r → Answers answer_size (lookup_fault s w) t t' r
@@ -195,7 +195,7 @@ smudged_answers s w t t' r e = answers (answer_at s (lowest s w)) (λ _. refl) e
 pub misreadings_answers : (s w t t' : List ℕ) (r : DV.Value) → MisreadingsSays s w t t' r → Answers (list_size s w) (lookup_fault s w) t t' r.number
 misreadings_answers s w t t' r e = answers (entries_of s w) (λ _. entries_long s w (misread s w)) e.0
 
-pub misreadings_of_answers : (s w c c' t t' : List ℕ) (r : ℕ) → MisreadingListSays s w c c' t t' r → Answers (list_size s w) (orShort (lookup_fault s w) c) t t' r
+pub misreadings_of_answers : (s w c c' t t' : List ℕ) (r : ℕ) → MisreadingListSays s w c c' t t' r → Answers (list_size s w) (or_short (lookup_fault s w) c) t t' r
 misreadings_of_answers s w c c' t t' r e = answers (entries_of s w) (λ _. entries_long s w (misread s w)) e.0
 
 pub bill_answers : (s : List ℕ) (p c : ℕ) (t t' : List ℕ) (r : ℕ) → BillOfSays s p c t t' r → Answers 8 (bill_fault s p c) t t' r

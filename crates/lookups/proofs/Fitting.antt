@@ -15,7 +15,7 @@ use Rattle.theory.proofs.Erasures.{fitting_in, lowest_fits}
 use Rattle.shape.specs.declared.Strip as DS
 use Rattle.shape.proofs.Limits.{limits}
 use Rattle.calls.specs.Answers.{Into}
-use Rattle.calls.proofs.Answers.{into-refused, into-given}
+use Rattle.calls.proofs.Answers.{into_refused, into_given}
 use Rattle.plans.specs.Opened.{Accepted}
 use Rattle.fitting.specs.declared.Fit.{Fit}
 use Rattle.fitting.specs.declared.Fit.TheVariants.{At, Nowhere}
@@ -25,7 +25,7 @@ use Rattle.lookups.specs.Says.{answer_at, LaidIn, SmudgedSays}
 
 -- a refusal leaves the tray as it was
 pub smudged_refused : (s w t : List ℕ) {f : ℕ} → smudged_fault s w ≡ f → ¬ (f ≡ 0) → SmudgedSays s w t t f
-smudged_refused s w t e some = into-refused (answer_at s (lowest s w)) t e some refl
+smudged_refused s w t e some = into_refused (answer_at s (lowest s w)) t e some refl
 
 -- on an accepted plan, with the strip x that it is laid on
 module _ {s : List ℕ} {x : DS.Strip} (a : Accepted s x) (w : List ℕ) where
@@ -65,4 +65,4 @@ module _ {s : List ℕ} {x : DS.Strip} (a : Accepted s x) (w : List ℕ) where
       laid_there {l} g = let some = laid_some s p (fitting_in s w fits).1 in record { faultless = a.faultless; section = g; some = omega (arith, g, some) }
 
       pub found-lowest : (t : List ℕ) {t' : List ℕ} {q : ℕ} → Into 0 (answer_at s p) t t' q → SmudgedSays s w t t' q
-      found-lowest t g = into-given t no_fault (ap (answer_at s) lowest_is) g
+      found-lowest t g = into_given t no_fault (ap (answer_at s) lowest_is) g

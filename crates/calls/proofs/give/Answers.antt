@@ -2,7 +2,7 @@
 use mathlib.Core.Path.{refl}
 use native.Mathlib.Omega.{arith}
 use borrow.Author.Rules.{rules}
-use Rattle.calls.proofs.Answers.{number_small, number-answer}
+use Rattle.calls.proofs.Answers.{number_small, number_answer}
 use Rattle.calls.proofs.give.Goals as goal
 
 pub returns-then-tray-lt-NUMBER : goal.returns-then-tray-lt-NUMBER
@@ -11,4 +11,4 @@ returns-then-tray-lt-NUMBER c = let a = c.args in number_small a.value a.tray.no
 pub returns : goal.returns
 returns c =
     let a = c.args in
-    number-answer a.value a.tray.now refl (omega arith) refl c.put64.ensures
+    number_answer a.value a.tray.now refl (omega arith) refl c.put64.ensures

@@ -11,7 +11,7 @@ use Rattle.buffers.specs.Buffers.{over}
 use Rattle.numbers.specs.Numbers.{put_be}
 use Rattle.buffers.proofs.Bytes.{handed_on}
 use Rattle.numbers.proofs.Numbers.{put-length}
-use Rattle.calls.proofs.Answers.{into-small, into-answer}
+use Rattle.calls.proofs.Answers.{into_small, into_answer}
 use Rattle.lookups.specs.Says.{answer_at}
 use Rattle.lookups.proofs.Laying.{section_inside, starts_before, bytes_are}
 use Rattle.lookups.proofs.give.Goals.{After-put64}
@@ -28,7 +28,7 @@ front-written c =
     handed_on (put_be 2 (a.laying - 1)) (put_be 8 (a.place - c.section_at.result.offset)) a.tray.now c.put16.new.out c.put64.new.out 2 (put-length 2 (a.laying - 1)) c.put16.ensures c.put64.ensures (omega arith)
 
 pub returns-then-tray-lt-ANSWER : goal.returns-then-tray-lt-ANSWER
-returns-then-tray-lt-ANSWER c = let a = c.args in into-small (answer_at a.plan.now a.place) a.tray.now refl (omega arith) refl refl
+returns-then-tray-lt-ANSWER c = let a = c.args in into_small (answer_at a.plan.now a.place) a.tray.now refl (omega arith) refl refl
 
 pub section_at-requires : goal.section_at-requires
 section_at-requires c = ((plan_good c.args.plan.now c.requires.faultless).0, section_inside c.requires)
@@ -41,6 +41,6 @@ rail_of-requires c = ((plan_good c.args.plan.now c.requires.faultless).0, sectio
 
 pub returns : goal.returns
 returns c =
-    into-answer (answer_at c.args.plan.now c.args.place) c.args.tray.now refl (omega arith) refl
+    into_answer (answer_at c.args.plan.now c.args.place) c.args.tray.now refl (omega arith) refl
     (handed_on (front (c.args.laying - 1) (c.args.place - c.section_at.result.offset)) (put_be 2 c.rail_of.result) c.args.tray.now _ c.put16-2.new.out 10 refl (front-written (goal.at.returns c).After-put64) c.put16-2.ensures (omega arith)
     ∙ ap (λ b. over b c.args.tray.now) (bytes_are c.requires (ap (λ x. x.offset) c.section_at.ensures) c.rail_of.ensures))

@@ -3,7 +3,7 @@ use mathlib.Core.Path.{refl, ap}
 use borrow.Author.Rules.{rules}
 use Rattle.theory.specs.Strips.{place_of}
 use Rattle.theory.specs.Plans.{shades, marks}
-use Rattle.calls.proofs.Answers.{into-refused, into-given}
+use Rattle.calls.proofs.Answers.{into_refused, into_given}
 use Rattle.windows.proofs.Looking.{Found, refused_by, found}
 use Rattle.lookups.specs.Says.{answer_at}
 use Rattle.lookups.proofs.Laying.{laid_there}
@@ -23,9 +23,9 @@ returns-in-Refused c =
     let a = c.args in
     let s = a.plan.now in
     let (is, some) = refused_by s a.window.now c.look.ensures c.in-Refused.is in
-    into-refused (answer_at s (place_of (shades s) (marks s) a.window.now)) a.tray.now is some refl
+    into_refused (answer_at s (place_of (shades s) (marks s) a.window.now)) a.tray.now is some refl
 
 pub returns-in-Laid : goal.returns-in-Laid
 returns-in-Laid c =
     let a = c.args in
-    into-given a.tray.now (laid-at (goal.at.returns-in-Laid c).In-Laid).fine (ap (answer_at a.plan.now) (laid-at (goal.at.returns-in-Laid c).In-Laid).place_is) c.give.ensures
+    into_given a.tray.now (laid-at (goal.at.returns-in-Laid c).In-Laid).fine (ap (answer_at a.plan.now) (laid-at (goal.at.returns-in-Laid c).In-Laid).place_is) c.give.ensures

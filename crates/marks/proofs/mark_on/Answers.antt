@@ -6,7 +6,7 @@ use Rattle.shape.specs.Rings.{letter_of}
 use Rattle.calls.specs.Refusals.{ring_fault}
 use Rattle.calls.proofs.Checks.{passed}
 use Rattle.bounds.proofs.Places.{place_checked}
-use Rattle.calls.proofs.Answers.{number-refused-by, number-given}
+use Rattle.calls.proofs.Answers.{number_refused_by, number_given}
 use Rattle.marks.proofs.mark_on.Goals as goal
 
 pub letter-requires : goal.letter-requires
@@ -18,11 +18,11 @@ letter-requires c =
 pub returns-in-Refused : goal.returns-in-Refused
 returns-in-Refused c =
     let a = c.args in
-    number-refused-by (ring_fault a.lengths a.k a.n a.place) a.k a.n (letter_of a.lengths a.k a.n a.place) a.tray.now c.check_place.ensures c.in-Refused.is refl
+    number_refused_by (ring_fault a.lengths a.k a.n a.place) a.k a.n (letter_of a.lengths a.k a.n a.place) a.tray.now c.check_place.ensures c.in-Refused.is refl
 
 pub returns-in-Strip : goal.returns-in-Strip
 returns-in-Strip c =
     let a = c.args in
     let none = (passed (ring_fault a.lengths a.k a.n a.place) a.k a.n c.check_place.ensures c.in-Strip.is).0 in
     let on = (place_checked a.lengths a.k a.n a.place c.check_place.ensures c.in-Strip.is).0 in
-    number-given a.tray.now none (c.letter.ensures ∙ ap₂ (λ k n. letter_of a.lengths k n a.place) on.letters on.marks) c.give.ensures
+    number_given a.tray.now none (c.letter.ensures ∙ ap₂ (λ k n. letter_of a.lengths k n a.place) on.letters on.marks) c.give.ensures

@@ -5,7 +5,7 @@ use Rattle.theory.specs.Shorts.{short_place_of}
 use Rattle.calls.specs.Refusals.{short_window_fault}
 use Rattle.calls.proofs.Checks.{passed}
 use Rattle.short.proofs.Refusing.{window_checked}
-use Rattle.calls.proofs.Answers.{number-refused-by, number-given}
+use Rattle.calls.proofs.Answers.{number_refused_by, number_given}
 use Rattle.marks.proofs.short_place_of.Goals as goal
 
 pub place_of-requires : goal.place_of-requires
@@ -18,7 +18,7 @@ pub returns-in-Refused : goal.returns-in-Refused
 returns-in-Refused c =
     let a = c.args in
     let w = a.window.now in
-    number-refused-by (short_window_fault a.k a.n w) a.k a.n (short_place_of a.k a.n w) a.tray.now c.check_window.ensures c.in-Refused.is refl
+    number_refused_by (short_window_fault a.k a.n w) a.k a.n (short_place_of a.k a.n w) a.tray.now c.check_window.ensures c.in-Refused.is refl
 
 pub returns-in-Strip : goal.returns-in-Strip
 returns-in-Strip c =
@@ -26,4 +26,4 @@ returns-in-Strip c =
     let w = a.window.now in
     let none = (passed (short_window_fault a.k a.n w) a.k a.n c.check_window.ensures c.in-Strip.is).0 in
     let on = (window_checked a.k a.n w c.check_window.ensures c.in-Strip.is).0 in
-    number-given a.tray.now none (c.place_of.ensures ∙ ap₂ (λ k n. short_place_of k n w) on.letters on.marks) c.give.ensures
+    number_given a.tray.now none (c.place_of.ensures ∙ ap₂ (λ k n. short_place_of k n w) on.letters on.marks) c.give.ensures

@@ -8,7 +8,7 @@ use Rattle.buffers.specs.Buffers.{over}
 use Rattle.numbers.specs.Numbers.{put_be}
 use Rattle.calls.specs.Refusals.{picture_fault}
 use Rattle.calls.proofs.Checks.{refused_by}
-use Rattle.calls.proofs.Answers.{both-refused, both-short, both_small, both-answer}
+use Rattle.calls.proofs.Answers.{both_refused, both_short, both_small, both_answer}
 use Rattle.pbm.specs.Pictures.{picture}
 use Rattle.pictures.proofs.Framing.{Passed, checked}
 use Rattle.pictures.proofs.Answering.{drawn_on}
@@ -41,7 +41,7 @@ returns c =
     let at = c.before.before in
     let a = at.before.before.before.before.before.before.args in
     let b = picture a.k a.n a.place a.width a.height in
-    both-short (picture_fault a.k a.n a.place a.width a.height) (length b) b a.size.now a.tray.now (omega arith) (sym (ap (λ f. first_of f 6) (known at).fine))
+    both_short (picture_fault a.k a.n a.place a.width a.height) (length b) b a.size.now a.tray.now (omega arith) (sym (ap (λ f. first_of f 6) (known at).fine))
 
 returns-2 : tie.Need-returns-2
 returns-2 c =
@@ -66,7 +66,7 @@ returns-3 c =
     let a = checked.before.before.before.args in
     let (is, some) = refused_by (picture_fault a.k a.n a.place a.width a.height) a.k a.n checked.check.ensures c.before.number.given.1 in
     let b = picture a.k a.n a.place a.width a.height in
-    both-refused (picture_fault a.k a.n a.place a.width a.height) (length b) b a.size.now a.tray.now is some
+    both_refused (picture_fault a.k a.n a.place a.width a.height) (length b) b a.size.now a.tray.now is some
 
 same_length : tie.Need-same-length
 same_length c = search rules
@@ -83,7 +83,7 @@ returns-4 c =
     let a = at.before.before.before.before.before.before.args in
     let b = picture a.k a.n a.place a.width a.height in
     let told = put.put64.ensures ∙ ap (λ v. over (put_be 8 v) a.size.now) (size.size.ensures ∙ sym (known at).long) in
-    both-answer (picture_fault a.k a.n a.place a.width a.height) (length b) b a.size.now a.tray.now (known at).fine (omega arith) (omega (arith, (known at).long, size.size.ensures)) (drawn_on (known at) a.tray.now write.write.ensures) told
+    both_answer (picture_fault a.k a.n a.place a.width a.height) (length b) b a.size.now a.tray.now (known at).fine (omega arith) (omega (arith, (known at).long, size.size.ensures)) (drawn_on (known at) a.tray.now write.write.ensures) told
 
 pub picture_of_spec : {M : Type 1} → statement M
 picture_of_spec =

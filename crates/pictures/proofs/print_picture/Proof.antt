@@ -4,7 +4,7 @@ use native.Mathlib.Omega.{arith}
 use lib.ListN.{length}
 use borrow.Author.Rules.{rules}
 use Rattle.calls.specs.Refusals.{picture_fault}
-use Rattle.calls.proofs.Answers.{beside-refused-by, beside-small, beside-answer}
+use Rattle.calls.proofs.Answers.{beside_refused_by, beside_small, beside_answer}
 use Rattle.pbm.specs.Pictures.{picture}
 use Rattle.pictures.proofs.Framing.{Passed, checked}
 use Rattle.pictures.proofs.Answering.{drawn_on}
@@ -38,7 +38,7 @@ returns c =
     let at = size.before in
     let a = at.before.before.before.before.before.args in
     let b = picture a.k a.n a.place a.width a.height in
-    beside-small (length b) b a.tray.now (known at).fine (omega (arith, (known at).long, size.size.ensures)) (refl, refl) refl
+    beside_small (length b) b a.tray.now (known at).fine (omega (arith, (known at).long, size.size.ensures)) (refl, refl) refl
 
 write-requires : tie.Need-write-requires
 write-requires c κs =
@@ -51,7 +51,7 @@ returns-2 c =
     let checked = c.before.before.before in
     let a = checked.before.before.args in
     let b = picture a.k a.n a.place a.width a.height in
-    beside-refused-by (picture_fault a.k a.n a.place a.width a.height) a.k a.n (length b) b a.tray.now checked.check.ensures c.before.number.given.1 refl (refl, refl)
+    beside_refused_by (picture_fault a.k a.n a.place a.width a.height) a.k a.n (length b) b a.tray.now checked.check.ensures c.before.number.given.1 refl (refl, refl)
 
 same_length : tie.Need-same-length
 same_length c = search rules
@@ -62,7 +62,7 @@ returns-3 c =
     let at = size.before in
     let a = at.before.before.before.before.before.args in
     let b = picture a.k a.n a.place a.width a.height in
-    beside-answer b a.tray.now (known at).fine (omega (arith, (known at).long, size.size.ensures)) (size.size.ensures ∙ sym (known at).long) (refl, refl)
+    beside_answer b a.tray.now (known at).fine (omega (arith, (known at).long, size.size.ensures)) (size.size.ensures ∙ sym (known at).long) (refl, refl)
     (drawn_on (known at) a.tray.now c.before.before.write.ensures)
 
 pub print_picture_spec : {M : Type 1} → statement M

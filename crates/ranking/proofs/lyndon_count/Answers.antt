@@ -3,7 +3,7 @@ use mathlib.Core.Path.{refl, ◌∙◌, ap₂}
 use Rattle.theory.specs.Words.{how_many}
 use Rattle.theory.specs.Strips.{strip_fault}
 use Rattle.calls.proofs.Checks.{passed, strip_checked}
-use Rattle.calls.proofs.Answers.{value-refused-by, value-answer}
+use Rattle.calls.proofs.Answers.{value_refused_by, value_answer}
 use Rattle.ranking.proofs.lyndon_count.Goals as goal
 
 pub count-requires : goal.count-requires
@@ -14,11 +14,11 @@ count-requires c =
 pub returns-in-Refused : goal.returns-in-Refused
 returns-in-Refused c =
     let a = c.args in
-    value-refused-by (strip_fault a.k a.n) a.k a.n (how_many a.k a.n) c.check_strip.ensures c.in-Refused.is (refl, refl)
+    value_refused_by (strip_fault a.k a.n) a.k a.n (how_many a.k a.n) c.check_strip.ensures c.in-Refused.is (refl, refl)
 
 pub returns-in-Strip : goal.returns-in-Strip
 returns-in-Strip c =
     let a = c.args in
     let none = (passed (strip_fault a.k a.n) a.k a.n c.check_strip.ensures c.in-Strip.is).0 in
     let on = strip_checked a.k a.n c.check_strip.ensures c.in-Strip.is in
-    value-answer none (c.count.ensures ∙ ap₂ how_many on.letters on.marks) (refl, refl)
+    value_answer none (c.count.ensures ∙ ap₂ how_many on.letters on.marks) (refl, refl)

@@ -7,7 +7,7 @@ use lib.Seq.{length-take-le}
 use Rattle.theory.specs.Words.{word_of, how_many}
 use Rattle.calls.specs.Refusals.{index_fault}
 use Rattle.calls.proofs.Checks.{StripIs, passed}
-use Rattle.calls.proofs.Answers.{into-refused-by, into-small, into-answer, part-over}
+use Rattle.calls.proofs.Answers.{into_refused_by, into_small, into_answer, part-over}
 use Rattle.ranking.proofs.Indexes.{index_long, index_checked}
 use Rattle.ranking.proofs.word_of.Goals.{In-Strip}
 use Rattle.ranking.proofs.word_of.Goals as goal
@@ -27,7 +27,7 @@ pub returns-then-tray-long : goal.returns-then-tray-long
 returns-then-tray-long c =
     let a = c.args in
     let at = (goal.at.returns-then-tray-long c).In-Strip in
-    into-small (word_of a.k a.n a.index) a.tray.now (none at) (omega (arith, long at)) refl refl
+    into_small (word_of a.k a.n a.index) a.tray.now (none at) (omega (arith, long at)) refl refl
 
 pub slice_bounds-find-end-in-Strip : goal.slice_bounds-find-end-in-Strip
 slice_bounds-find-end-in-Strip c = let a = c.args in sym (length-take-le a.n a.tray.now (omega arith))
@@ -42,12 +42,12 @@ find-requires c =
 pub returns-in-Refused : goal.returns-in-Refused
 returns-in-Refused c =
     let a = c.args in
-    into-refused-by (index_fault a.k a.n a.index) a.k a.n (word_of a.k a.n a.index) a.tray.now c.check_index.ensures c.in-Refused.is refl
+    into_refused_by (index_fault a.k a.n a.index) a.k a.n (word_of a.k a.n a.index) a.tray.now c.check_index.ensures c.in-Refused.is refl
 
 pub returns-else-tray-long : goal.returns-else-tray-long
 returns-else-tray-long c =
     let a = c.args in
     let at = (goal.at.returns-else-tray-long c).In-Strip in
     let on = (word at).0 in
-    into-answer (word_of a.k a.n a.index) a.tray.now (none at) (omega (arith, long at)) refl
+    into_answer (word_of a.k a.n a.index) a.tray.now (none at) (omega (arith, long at)) refl
     (part-over a.tray.now (c.find.ensures ∙ ap₂ (λ x y. word_of x y a.index) on.letters on.marks) (long at))

@@ -4,17 +4,17 @@ use borrow.Author.Rules.{rules}
 use Rattle.theory.specs.Words.{root}
 use Rattle.calls.specs.Refusals.{the_word_fault}
 use Rattle.calls.proofs.Checks.{passed}
-use Rattle.calls.proofs.Answers.{value-refused-by, value-answer}
+use Rattle.calls.proofs.Answers.{value_refused_by, value_answer}
 use Rattle.words.proofs.shortest_root.Goals as goal
 
 pub returns-in-Refused : goal.returns-in-Refused
 returns-in-Refused c =
     let a = c.args in
     let w = a.word.now in
-    value-refused-by (the_word_fault a.k a.n w) a.k a.n (root w) c.check_word.ensures c.in-Refused.is (refl, refl)
+    value_refused_by (the_word_fault a.k a.n w) a.k a.n (root w) c.check_word.ensures c.in-Refused.is (refl, refl)
 
 pub returns-in-Strip : goal.returns-in-Strip
 returns-in-Strip c =
     let a = c.args in
     let none = (passed (the_word_fault a.k a.n a.word.now) a.k a.n c.check_word.ensures c.in-Strip.is).0 in
-    value-answer none c.shortest_root.ensures (refl, refl)
+    value_answer none c.shortest_root.ensures (refl, refl)

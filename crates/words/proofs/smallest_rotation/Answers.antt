@@ -6,7 +6,7 @@ use Rattle.theory.specs.Words.{smallest, least_turn}
 use Rattle.theory.proofs.Necklaces.{smallest-length}
 use Rattle.calls.specs.Refusals.{the_word_fault}
 use Rattle.calls.proofs.Checks.{passed}
-use Rattle.calls.proofs.Answers.{beside-refused-by, beside-small, beside-answer}
+use Rattle.calls.proofs.Answers.{beside_refused_by, beside_small, beside_answer}
 use Rattle.words.proofs.smallest_rotation.Goals.{In-Strip}
 use Rattle.words.proofs.smallest_rotation.Goals as goal
 
@@ -18,16 +18,16 @@ pub returns-then-tray-word : goal.returns-then-tray-word
 returns-then-tray-word c =
     let a = c.args in
     let w = a.word.now in
-    beside-small (least_turn w) (smallest w) a.tray.now (none (goal.at.returns-then-tray-word c).In-Strip) (omega (arith, smallest-length w)) (refl, refl) refl
+    beside_small (least_turn w) (smallest w) a.tray.now (none (goal.at.returns-then-tray-word c).In-Strip) (omega (arith, smallest-length w)) (refl, refl) refl
 
 pub returns-in-Refused : goal.returns-in-Refused
 returns-in-Refused c =
     let a = c.args in
     let w = a.word.now in
-    beside-refused-by (the_word_fault a.k a.n w) a.k a.n (least_turn w) (smallest w) a.tray.now c.check_word.ensures c.in-Refused.is refl (refl, refl)
+    beside_refused_by (the_word_fault a.k a.n w) a.k a.n (least_turn w) (smallest w) a.tray.now c.check_word.ensures c.in-Refused.is refl (refl, refl)
 
 pub returns-else-tray-word : goal.returns-else-tray-word
 returns-else-tray-word c =
     let a = c.args in
     let w = a.word.now in
-    beside-answer (smallest w) a.tray.now (none (goal.at.returns-else-tray-word c).In-Strip) (omega (arith, smallest-length w)) c.smallest.ensures.0 (refl, refl) c.smallest.ensures.1
+    beside_answer (smallest w) a.tray.now (none (goal.at.returns-else-tray-word c).In-Strip) (omega (arith, smallest-length w)) c.smallest.ensures.0 (refl, refl) c.smallest.ensures.1
