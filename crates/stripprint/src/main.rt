@@ -1,20 +1,22 @@
 // The program `stripprint`: a request from standard input, its picture to standard output, row by row. Nothing, if there is no such picture.
 #![tactic(auto)]
 
-use libc::{STDIN_FILENO, STDOUT_FILENO};
+const STDIN: i32 = 0;
+
+const STDOUT: i32 = 1;
 
 // The buffer that is read into holds more than a request, so that a longer input is seen.
 fn main() {
     let mut room = io::large_buffer();
-    let long = io::read_full(STDIN_FILENO, &mut room);
+    let long = io::read_full(STDIN, &mut room);
     let mut out = [0u8; pbm::MOST];
     let parts = pictures::parts(&room[..long], &mut out);
     let head = parts.head;
     let end = parts.end;
-    io::write_all(STDOUT_FILENO, &out[..head]);
+    io::write_all(STDOUT, &out[..head]);
     let mut left = parts.rows;
     while 0 < left {
-        io::write_all(STDOUT_FILENO, &out[head..end]);
+        io::write_all(STDOUT, &out[head..end]);
         left -= 1;
     }
 }

@@ -1,14 +1,16 @@
 // The program `stripwalk`: a plan from standard input, its listing to standard output.
 #![tactic(auto)]
 
-use libc::{STDIN_FILENO, STDOUT_FILENO};
+const STDIN: i32 = 0;
+
+const STDOUT: i32 = 1;
 
 // The buffer that is read into holds more than the longest plan, so that a longer record is seen to be torn.
 fn main() {
     let mut room = io::large_buffer();
-    let long = io::read_full(STDIN_FILENO, &mut room);
+    let long = io::read_full(STDIN, &mut room);
     let plan = &room[..long];
     let mut out = [0u8; listing::MOST];
     let end = listing::text(plan, &mut out);
-    io::write_all(STDOUT_FILENO, &out[..end]);
+    io::write_all(STDOUT, &out[..end]);
 }
