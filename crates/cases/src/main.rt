@@ -1,7 +1,6 @@
 // Runs the cases of the documents that the calls on words and on bills answer: a line for each call, with what it was asked, its number, its answer.
 #![tactic(auto)]
 
-
 // Between two fields.
 fn space() {
     io::write_all(1, b" ");
