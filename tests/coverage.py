@@ -56,24 +56,23 @@ def bodies(code):
 # Functions and their contracts
 
 class Clause:
-    """One `ensures` of a contract, λ result. ⌜ fact ⌝: the name of the result, and the words of the fact."""
+    """One `ensures` of a contract: the words of its fact, in which `result` is what is answered and `x.new` what the buffer x holds at the exit."""
 
     def __init__(self, text):
-        bound = re.match(r"\s*λ\s+(\S+?)\.\s", text)
-        self.result = bound[1] if bound and bound[1] != "_" else None
-        fact = re.sub(r"--.*", "", text[bound.end():] if bound else text)
-        self.words = re.findall(r"[^\s(){}⌜⌝,;]+", fact)
-        self.sides = [side.split() for side in re.sub(r"[⌜⌝()]", " ", fact).split("≡")]
+        fact = re.sub(r"--.*", "", text)
+        self.words = re.findall(r"[^\s(){},;]+", fact)
+        self.sides = [side.split() for side in re.sub(r"[()]", " ", fact).split("≡")]
 
     def says_nothing(self):
         """Unit, or that something is what it is."""
         return set(self.words) <= {"Unit", "×"} or (len(self.sides) == 2 and self.sides[0] == self.sides[1])
 
     def names_result(self):
-        return self.result is not None and any(word.split(".")[0] == self.result for word in self.words)
+        return any(word.split(".")[0] == "result" for word in self.words)
 
-    def names_exit(self, buffer):
-        return (buffer, ".exit") in zip(self.words, self.words[1:])
+    def names_exit(self, buffer=None):
+        """Of this buffer, or of any."""
+        return any(word.split(".")[1:2] == ["new"] and buffer in (None, word.split(".")[0]) for word in self.words)
 
 
 class Function:
@@ -122,7 +121,7 @@ def contract_lack(function):
         return "a contract of which every clause says something"
     if function.answers and not any(clause.names_result() for clause in clauses):
         return "a contract that names its result"
-    if not function.answers and not any(".exit" in clause.words for clause in clauses):
+    if not function.answers and not any(clause.names_exit() for clause in clauses):
         return "a contract that names what it leaves"
     for buffer in function.buffers():
         if not any(clause.names_exit(buffer) for clause in clauses):
@@ -260,9 +259,9 @@ def read_crate(name, uses):
 
 
 def read_tree():
-    """The crates of crates.txt; of the programs, those that the gate proves and runs, and the C programs that tests/host builds."""
+    """The crates of crates.txt, where `staticlib` may stand behind a name; of the programs, those that the gate proves and runs, and the C programs that tests/host builds."""
     lines = [line for line in (ROOT / "crates.txt").read_text().split("\n") if line and not line.startswith("#")]
-    crates = {name: read_crate(name, set(uses.split())) for name, uses in (line.split(":", 1) for line in lines)}
+    crates = {name: read_crate(name, set(uses.split())) for (name, *_), uses in ((head.split(), uses) for head, uses in (line.split(":", 1) for line in lines))}
     host = (ROOT / "tests" / "host").read_text()
     programs = {path.name: path.read_text() for path in sorted((ROOT / "tests").glob("*.c")) if re.search(r"\b%s\b" % path.stem, host)}
     for name in crates:

@@ -12,7 +12,7 @@ USES = {"theory": "", "buffers": "", "words": "buffers", "cursors": "", "strip":
 FILES = {
     "theory/src": """
 pub fn proved()
-    ensures { λ _. ⌜ Theorems ⌝ }
+    ensures { Theorems }
 {}
 """,
     "theory/edit 1": "file: specs/Words.antt\nold: one\nnew: two\n",
@@ -20,8 +20,8 @@ pub fn proved()
     "buffers/src": """
 // Over the start of the buffer.
 pub fn put(v: u64, out: &mut [u8])
-    requires { ⌜ 1 ≤ length (now out) ⌝ }
-    ensures { λ _. ⌜ now (out .exit) ≡ over v (now (out .entry)) ⌝ }
+    requires { 1 ≤ length out.old }
+    ensures { out.new ≡ over v out.old }
 {
     out[0] = v as u8;
     fill(out);
@@ -36,8 +36,8 @@ fn fill(out: &mut [u8]) {
     "words/src": """
 // The rank of a word.
 pub fn rank_of(k: u64, word: &[u8], tray: &mut [u8]) -> u8
-    ensures number { λ r. ⌜ r ≡ fault k (now (word .entry)) ⌝ }
-    ensures left { λ _. ⌜ now (tray .exit) ≡ put k (now (tray .entry)) ⌝ }
+    ensures number { result ≡ fault k word.now }
+    ensures left { tray.new ≡ put k tray.old }
 {
     buffers::put(k + 1, tray);
     0
@@ -49,7 +49,7 @@ pub fn rank_of(k: u64, word: &[u8], tray: &mut [u8]) -> u8
 impl Cursor {
     // The step.
     pub fn step(self) -> Stepped
-        ensures { λ r. ⌜ StepSays self r ⌝ }
+        ensures { StepSays self result }
     {
         let place = self.place + 1;
         moved(self, place)
@@ -59,9 +59,9 @@ impl Cursor {
     "cursors/edit 1": "file: src/lib.rt\nold: self.place + 1\nnew: self.place\n",
     "cursors/edit 2": "file: src/lib.rt\nold: moved(self, place)\nnew: lost(self)\n",
     "strip/src": """
-#[no_mangle]
+#[unsafe(no_mangle)]
 pub extern "C" fn rank_of(k: u64, word: &[u8], tray: &mut [u8]) -> u8
-    ensures { λ r. ⌜ RankSays k (now (word .entry)) (now (tray .entry)) (now (tray .exit)) r ⌝ }
+    ensures { RankSays k word.now tray.old tray.new result }
 {
     words::rank_of(k, word, tray)
 }
@@ -80,10 +80,10 @@ int main(void) {
 """,
 }
 
-STEP = "        ensures { λ r. ⌜ StepSays self r ⌝ }\n"
-NUMBER = "    ensures number { λ r. ⌜ r ≡ fault k (now (word .entry)) ⌝ }\n"
-LEFT = "    ensures left { λ _. ⌜ now (tray .exit) ≡ put k (now (tray .entry)) ⌝ }\n"
-PUT = "    ensures { λ _. ⌜ now (out .exit) ≡ over v (now (out .entry)) ⌝ }\n"
+STEP = "        ensures { StepSays self result }\n"
+NUMBER = "    ensures number { result ≡ fault k word.now }\n"
+LEFT = "    ensures left { tray.new ≡ put k tray.old }\n"
+PUT = "    ensures { out.new ≡ over v out.old }\n"
 SAYS_NOTHING = "lacks a contract of which every clause says something"
 
 # What is tried, the file, what is replaced by what, and the one fault that must be found.
@@ -91,27 +91,27 @@ TRICKS = (
     ("a method whose body says ensures", "cursors/src",
      STEP + "    {\n", "    {\n        let ensures = true;\n", "cursors::step lacks a contract"),
     ("a function whose body says ensures", "words/src",
-     NUMBER + LEFT + "{\n", "{\n    // ensures { λ r. ⌜ r ≡ 0 ⌝ }\n", "words::rank_of lacks a contract"),
+     NUMBER + LEFT + "{\n", "{\n    // ensures { result ≡ 0 }\n", "words::rank_of lacks a contract"),
     ("a contract in a comment", "cursors/src", STEP, "        //" + STEP.lstrip(" "), "cursors::step lacks a contract"),
     ("a requires alone", "buffers/src", PUT, "", "buffers::put lacks a contract"),
-    ("Unit", "cursors/src", "λ r. ⌜ StepSays self r ⌝", "λ _. ⌜ Unit ⌝", "cursors::step " + SAYS_NOTHING),
-    ("Unit of the result", "cursors/src", "⌜ StepSays self r ⌝", "⌜ (Unit) × Unit ⌝", "cursors::step " + SAYS_NOTHING),
+    ("Unit", "cursors/src", "{ StepSays self result }", "{ Unit }", "cursors::step " + SAYS_NOTHING),
+    ("Unit of the result", "cursors/src", "{ StepSays self result }", "{ (Unit) × Unit }", "cursors::step " + SAYS_NOTHING),
     ("Unit in one clause of several", "words/src",
-     LEFT, LEFT + "    ensures more { λ _. ⌜ Unit ⌝ }\n", "words::rank_of " + SAYS_NOTHING),
-    ("a result that is itself", "cursors/src", "⌜ StepSays self r ⌝", "⌜ r ≡ r ⌝", "cursors::step " + SAYS_NOTHING),
+     LEFT, LEFT + "    ensures more { Unit }\n", "words::rank_of " + SAYS_NOTHING),
+    ("a result that is itself", "cursors/src", "{ StepSays self result }", "{ result ≡ result }", "cursors::step " + SAYS_NOTHING),
     ("a fact of the arguments alone", "cursors/src",
-     "⌜ StepSays self r ⌝", "⌜ GoodOn self ⌝", "cursors::step lacks a contract that names its result"),
+     "{ StepSays self result }", "{ GoodOn self }", "cursors::step lacks a contract that names its result"),
     ("a fact of the arguments alone, where nothing is answered", "buffers/src",
-     PUT, "    ensures { λ _. ⌜ 1 ≤ length (now (out .entry)) ⌝ }\n", "buffers::put lacks a contract that names what it leaves"),
+     PUT, "    ensures { 1 ≤ length out.old }\n", "buffers::put lacks a contract that names what it leaves"),
     ("a result that is only part of a word", "cursors/src",
-     "⌜ StepSays self r ⌝", "⌜ StepSays self r-1 ⌝", "cursors::step lacks a contract that names its result"),
+     "{ StepSays self result }", "{ StepSays self result-1 }", "cursors::step lacks a contract that names its result"),
     ("a result in a comment of the contract", "cursors/src",
-     "⌜ StepSays self r ⌝", "⌜ GoodOn self ⌝ -- r", "cursors::step lacks a contract that names its result"),
+     "{ StepSays self result }", "{ GoodOn self -- result\n        }", "cursors::step lacks a contract that names its result"),
     ("a tray without the number", "words/src", NUMBER, "", "words::rank_of lacks a contract that names its result"),
     ("a number without the tray", "words/src", LEFT, "", "words::rank_of lacks a contract that names what it leaves in tray"),
-    ("the whole library as Unit", "theory/src", "⌜ Theorems ⌝", "⌜ Unit ⌝", "theory::proved lacks its record Theorems as contract"),
+    ("the whole library as Unit", "theory/src", "{ Theorems }", "{ Unit }", "theory::proved lacks its record Theorems as contract"),
     ("the whole library as another record", "theory/src",
-     "⌜ Theorems ⌝", "⌜ Words ⌝", "theory::proved lacks its record Theorems as contract"),
+     "{ Theorems }", "{ Words }", "theory::proved lacks its record Theorems as contract"),
     ("a C function of the same name", "vectors.c",
      "uint8_t *tray, size_t tray_len);", "uint8_t *tray, size_t tray_len)\n{\n    return 0;\n}", "strip::rank_of lacks a test program that calls it"),
     ("a C macro of the same name", "vectors.c",
