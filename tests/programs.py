@@ -1,7 +1,7 @@
 #!/usr/bin/env python3
 """Runs the built programs on the inputs made for them and compares every byte that they write with the model of the rules.
 
-    programs.py FOLDER      runs FOLDER/NAME for each program of the table PROGRAMS
+    programs.py             runs crates/NAME/out/NAME for each program of the table PROGRAMS
     programs.py --names     prints the names of the programs
 """
 import shutil
@@ -102,16 +102,15 @@ def netpbm_agrees():
 
 
 def main():
-    if len(sys.argv) != 2:
-        sys.exit(__doc__)
-    if sys.argv[1] == "--names":
+    if sys.argv[1:] == ["--names"]:
         print("\n".join(PROGRAMS))
         return 0
+    if len(sys.argv) != 1:
+        sys.exit(__doc__)
     reading = {path.parent.name for path in CRATES.glob("*/stdin")}
     if not reading or reading != set(PROGRAMS):
         sys.exit("programs: the table has %s, but those that have an input are %s" % (sorted(PROGRAMS), sorted(reading)))
-    folder = Path(sys.argv[1]).resolve()
-    verdicts = [is_right(folder / name, inputs()) for name, inputs in PROGRAMS.items()]
+    verdicts = [is_right(CRATES / name / "out" / name, inputs()) for name, inputs in PROGRAMS.items()]
     return 0 if all(verdicts) and netpbm_agrees() else 1
 
 
