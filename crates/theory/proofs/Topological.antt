@@ -9,7 +9,7 @@ use lib.Dec.{ltb, eqb}
 use lib.ListN.{length, get_or, length-append}
 use borrow.Author.Tests.{eqb-true, eqb-false, eq-eqb, ltb-true, not-true, not-false}
 use Rattle.theory.specs.Words.{keep, up_to, all_words}
-use Rattle.theory.specs.Lists.{In, here, there, Once, Ascending, holds, each_once, count_from}
+use Rattle.theory.specs.Lists.{In, here, there, Once, holds, each_once, count_from}
 use Rattle.theory.specs.Topological.{Pair, pair, known, ahead, keeps_all, orders, first_order, Topological, Chain, link, chain, Round, waits, ready, next_ready}
 use Rattle.theory.specs.Theorems.{Ordered}
 use Rattle.theory.proofs.Base.{test, same_test, and_l, and_r, and_in, or_cases, or_right, refute, refuted, cmp, less, equal, more}

@@ -1,10 +1,8 @@
 -- `buffers::copy` puts the source's bytes over the start of the buffer. Invariant: the first i bytes are there, the others are as before.
-use mathlib.Core.Path.{◌≡◌, refl, ◌∙◌}
+use mathlib.Core.Path.{◌≡◌}
 use Prim.Native.Nat.{◌-◌, ◌≤◌}
-use native.Mathlib.Omega.{arith}
-use lib.ListN.{length, length-set}
-use lib.Seq.{paste, paste-zero}
-use Rattle.buffers.proofs.Bytes.{paste_next, paste_all}
+use lib.ListN.{length}
+use lib.Seq.{paste}
 use Rattle.buffers.proofs.copy.Given as goal
 
 abbrev pub invariant-loop-i : goal.invariant-loop-i

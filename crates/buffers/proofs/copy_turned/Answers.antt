@@ -4,7 +4,6 @@ use Prim.Native.Nat.{◌-◌}
 use native.Mathlib.Omega.{arith}
 use lib.ListN.{length, take, drop, length-drop}
 use lib.Seq.{length-take-le}
-use borrow.Author.Rules.{rules}
 use Rattle.buffers.proofs.Bytes.{first_part, room_left, handed_on}
 use Rattle.buffers.proofs.copy_turned.Goals as goal
 

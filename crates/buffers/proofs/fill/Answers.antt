@@ -1,8 +1,7 @@
 use mathlib.Core.Path.{◌≡◌, ◌∙◌, ap}
-use Prim.Native.Nat.{◌≤◌}
 use native.Mathlib.Omega.{arith}
 use Rattle.buffers.specs.Buffers.{filled}
-use Rattle.buffers.proofs.Fills.{Filled, filled_none, filled_more}
+use Rattle.buffers.proofs.Fills.{filled_none, filled_more}
 use Rattle.buffers.proofs.fill.Goals as goal
 
 pub loop-i-init : goal.loop-i-init

@@ -1,9 +1,6 @@
 -- `buffers::fill` puts one byte from the end down to a place. Invariant: from i on every byte is it, the others are as before.
-use mathlib.Core.Path.{◌≡◌, ◌∙◌, ap}
 use Prim.Native.Nat.{◌≤◌}
-use native.Mathlib.Omega.{arith}
-use Rattle.buffers.specs.Buffers.{filled}
-use Rattle.buffers.proofs.Fills.{Filled, filled_none, filled_more}
+use Rattle.buffers.proofs.Fills.{Filled}
 use Rattle.buffers.proofs.fill.Given as goal
 
 abbrev pub invariant-loop-i : goal.invariant-loop-i

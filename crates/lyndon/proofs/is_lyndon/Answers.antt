@@ -5,7 +5,6 @@ use native.Mathlib.Omega.{arith}
 use lib.Dec.{eqb}
 use lib.ListN.{length}
 use Rattle.lyndon.proofs.PrePeriods.{lyndon_empty, lyndon_by_period}
-use borrow.Author.Rules.{rules}
 use Rattle.lyndon.proofs.is_lyndon.Goals as goal
 
 pub returns-then-w-eq0 : goal.returns-then-w-eq0

@@ -5,7 +5,6 @@ use native.Mathlib.Omega.{arith}
 use lib.Dec.{eqb}
 use lib.ListN.{length}
 use Rattle.lyndon.proofs.PrePeriods.{necklace_empty, necklace_none, necklace_by_period}
-use borrow.Author.Rules.{rules}
 use Rattle.lyndon.proofs.is_necklace.Goals as goal
 
 pub returns-then-w-eq0 : goal.returns-then-w-eq0

@@ -1,9 +1,7 @@
-use Prim.Native.Nat.{◌-◌, ◌≤◌, ◌<◌}
-use mathlib.Core.Path.{◌≡◌, refl, sym, ◌∙◌}
+use Prim.Native.Nat.{◌≤◌, ◌<◌}
+use mathlib.Core.Path.{refl, sym, ◌∙◌}
 use native.Mathlib.Omega.{arith}
-use lib.ListN.{length, get_or, drop}
-use borrow.Author.Rules.{rules}
-use Rattle.theory.specs.Words.{marks_ok}
+use lib.ListN.{get_or}
 use Rattle.lyndon.proofs.Scans.{marks_large, marks_on, marks-end}
 use Rattle.lyndon.proofs.letters_below.Goals as goal
 

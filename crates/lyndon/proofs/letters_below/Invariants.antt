@@ -1,11 +1,8 @@
 -- letters_below: every letter is below k, tested one after another.
-use Prim.Native.Nat.{◌-◌, ◌≤◌, ◌<◌}
-use mathlib.Core.Path.{◌≡◌, refl, sym, ◌∙◌}
-use native.Mathlib.Omega.{arith}
-use lib.ListN.{length, get_or, drop}
-use borrow.Author.Rules.{rules}
+use Prim.Native.Nat.{◌-◌, ◌≤◌}
+use mathlib.Core.Path.{◌≡◌}
+use lib.ListN.{length, drop}
 use Rattle.theory.specs.Words.{marks_ok}
-use Rattle.lyndon.proofs.Scans.{marks_large, marks_on, marks-end}
 use Rattle.lyndon.proofs.letters_below.Given as goal
 
 abbrev pub invariant-loop-i : goal.invariant-loop-i

@@ -1,8 +1,8 @@
-use Prim.Native.Nat.{◌-◌, ◌≤◌, ◌<◌}
+use Prim.Native.Nat.{◌-◌, ◌<◌}
 use mathlib.Core.Path.{◌≡◌, sym}
 use native.Mathlib.Omega.{arith}
 use lib.ListN.{length, get_or}
-use Rattle.lyndon.proofs.PrePeriods.{pre_period-empty, Periodic, periodic_start, periodic_keep, periodic_raise, periodic_fall, periodic_end}
+use Rattle.lyndon.proofs.PrePeriods.{pre_period-empty, periodic_start, periodic_keep, periodic_raise, periodic_fall, periodic_end}
 use Rattle.lyndon.proofs.pre_period.Goals as goal
 
 pub returns-then-w-eq0 : goal.returns-then-w-eq0

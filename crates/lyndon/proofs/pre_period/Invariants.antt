@@ -1,9 +1,7 @@
 -- pre_period: the length of the Lyndon word that the word extends, or 0. The first i letters extend a Lyndon word of length p.
-use Prim.Native.Nat.{◌-◌, ◌≤◌, ◌<◌}
-use mathlib.Core.Path.{◌≡◌, sym}
-use native.Mathlib.Omega.{arith}
-use lib.ListN.{length, get_or}
-use Rattle.lyndon.proofs.PrePeriods.{pre_period-empty, Periodic, periodic_start, periodic_keep, periodic_raise, periodic_fall, periodic_end}
+use Prim.Native.Nat.{◌-◌, ◌≤◌}
+use lib.ListN.{length}
+use Rattle.lyndon.proofs.PrePeriods.{Periodic}
 use Rattle.lyndon.proofs.pre_period.Given as goal
 
 abbrev pub invariant-loop-i : goal.invariant-loop-i

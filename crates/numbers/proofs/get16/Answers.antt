@@ -1,6 +1,5 @@
 -- get16: its two bytes, one behind the other.
 use native.Mathlib.Omega.{arith}
-use borrow.Author.Rules.{rules}
 use Rattle.numbers.proofs.Numbers.{be_first, be_next}
 use Rattle.numbers.proofs.get16.Goals as goal
 

@@ -1,6 +1,5 @@
 -- get32: its four bytes, one behind the other.
 use native.Mathlib.Omega.{arith}
-use borrow.Author.Rules.{rules}
 use Rattle.numbers.proofs.Numbers.{be_first, be_next}
 use Rattle.numbers.proofs.get32.Goals as goal
 

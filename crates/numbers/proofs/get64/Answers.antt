@@ -1,6 +1,5 @@
 -- get64: the number in the first four bytes, and that in the four behind them.
 use native.Mathlib.Omega.{arith}
-use borrow.Author.Rules.{rules}
 use Rattle.numbers.proofs.Numbers.{be_join}
 use Rattle.numbers.proofs.get64.Goals as goal
 

@@ -1,6 +1,5 @@
 -- `numbers::put16` writes the two bytes of a number, the highest first.
 use lib.Seq.{sets-eq}
-use borrow.Author.Rules.{rules}
 use Rattle.numbers.specs.Numbers.{put_be}
 use Rattle.numbers.proofs.put16.Goals as goal
 

@@ -2,7 +2,6 @@
 use native.Mathlib.Omega.{arith}
 use lib.ListN.{length-set}
 use lib.Seq.{sets-eq}
-use borrow.Author.Rules.{rules}
 use Rattle.numbers.specs.Numbers.{put_be}
 use Rattle.numbers.proofs.put64.Goals as goal
 

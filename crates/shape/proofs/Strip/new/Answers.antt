@@ -1,7 +1,6 @@
 -- `shape::Strip::new` makes the strip of an admitted k and n, and refuses any other at the limit that it breaks.
 use mathlib.Core.Path.{refl}
 use native.Mathlib.Omega.{arith}
-use borrow.Author.Rules.{rules}
 use Rattle.shape.proofs.Making.{refuses, strip_made}
 use Rattle.shape.proofs.Powers.{power_value, power_past}
 use Rattle.shape.proofs.Strip.new.Goals as goal
