@@ -1,6 +1,5 @@
 -- `check_strip` answers the strip that the constructor makes, or the refusal 1.
 use native.Mathlib.Omega.{arith}
-use borrow.Author.Rules.{rules}
 use Rattle.theory.specs.Strips.{strip_fault}
 use Rattle.calls.proofs.Checks.{refused_with, passed_with, none_made, made_passes, made_is}
 use Rattle.calls.proofs.check_strip.Goals as goal

@@ -3,7 +3,6 @@ use mathlib.Core.Path.{◌≡◌, sym, ◌∙◌}
 use mathlib.Core.List.{List}
 use Prim.Native.Nat.{ℕ}
 use native.Mathlib.Omega.{arith}
-use borrow.Author.Rules.{rules}
 use Rattle.theory.specs.Plans.{word_fault}
 use Rattle.calls.specs.Refusals.{the_word_fault}
 use Rattle.calls.proofs.Checks.{refused_with, passed_with, none_first, made_then, made_is, word-long, word_marked}

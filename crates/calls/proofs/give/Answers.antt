@@ -1,7 +1,6 @@
 -- `give` puts a number's 8 bytes into the tray, or refuses one that is too small.
 use mathlib.Core.Path.{refl}
 use native.Mathlib.Omega.{arith}
-use borrow.Author.Rules.{rules}
 use Rattle.calls.proofs.Answers.{number_small, number_answer}
 use Rattle.calls.proofs.give.Goals as goal
 
