@@ -1,12 +1,9 @@
 -- count_unread: so many erasures before letter i, and those from there on.
 use Prim.Native.Nat.{◌+◌, ◌-◌, ◌≤◌}
 use mathlib.Core.Path.{◌≡◌}
-use mathlib.Core.Logic.{⊎_elim}
-use native.Mathlib.Omega.{arith}
 use lib.ListN.{length, drop}
 use Rattle.theory.specs.Words.{keep}
 use Rattle.theory.specs.Erasures.{unread}
-use Rattle.erasures.proofs.Scans.{unread_on, unread-past, unread-end}
 use Rattle.erasures.proofs.count_unread.Given as goal
 
 abbrev pub invariant-loop-i : goal.invariant-loop-i

@@ -1,7 +1,6 @@
 -- fault: the tests one after the other.
 use mathlib.Core.Path.{sym, ◌∙◌}
 use native.Mathlib.Omega.{arith}
-use borrow.Author.Rules.{rules}
 use Rattle.erasures.proofs.Scans.{wrong_length, too_smudged, letters_told}
 use Rattle.erasures.proofs.fault.Goals as goal
 

@@ -1,13 +1,11 @@
-use Prim.Native.Nat.{◌+◌, ◌-◌, ◌≤◌, ◌/◌, ◌%◌}
+use Prim.Native.Nat.{◌/◌, ◌%◌}
 use mathlib.Core.Path.{◌≡◌, refl}
-use mathlib.Core.List.{◌++◌}
 use native.Mathlib.Omega.{arith}
 use native.Mathlib.Nat.{mod-lt}
-use lib.ListN.{length, get_or, take, drop, length-set}
+use lib.ListN.{get_or, length-set}
 use borrow.Author.Tests.{eq-eqb, ne_eqb}
-use borrow.Author.Rules.{rules}
 use Rattle.theory.specs.Words.{pick}
-use Rattle.theory.specs.Erasures.{unread, filling}
+use Rattle.theory.specs.Erasures.{unread}
 use Rattle.erasures.proofs.Scans.{filling_on, filling-end}
 use Rattle.erasures.proofs.fill.Goals.{Then-letter, then-letter, else-letter}
 use Rattle.erasures.proofs.fill.Goals as goal

@@ -1,16 +1,9 @@
 -- fill: the first i letters of the filling stand in the buffer, and `rest` is left for the erasures from there on.
-use Prim.Native.Nat.{◌+◌, ◌-◌, ◌≤◌, ◌/◌, ◌%◌}
-use mathlib.Core.Path.{◌≡◌, refl}
+use Prim.Native.Nat.{◌-◌, ◌≤◌}
+use mathlib.Core.Path.{◌≡◌}
 use mathlib.Core.List.{◌++◌}
-use mathlib.Core.Logic.{⊎_elim}
-use native.Mathlib.Omega.{arith}
-use native.Mathlib.Nat.{mod-lt}
-use lib.ListN.{length, get_or, take, drop, length-set}
-use borrow.Author.Tests.{eq-eqb, ne_eqb}
-use borrow.Author.Rules.{rules}
-use Rattle.theory.specs.Words.{pick}
-use Rattle.theory.specs.Erasures.{unread, filling}
-use Rattle.erasures.proofs.Scans.{filling_on, filling-end}
+use lib.ListN.{length, take, drop}
+use Rattle.theory.specs.Erasures.{filling}
 use Rattle.erasures.proofs.fill.Given as goal
 
 abbrev pub invariant-loop-i : goal.invariant-loop-i

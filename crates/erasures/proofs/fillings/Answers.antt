@@ -1,7 +1,6 @@
 -- fillings: a power of k, by the number of erasures.
 use native.Mathlib.Omega.{arith}
 use native.Mathlib.Nat.{mul-le-mul}
-use borrow.Author.Rules.{rules}
 use Rattle.erasures.proofs.Scans.{one-filling, letter_fillings, pair_fillings}
 use Rattle.erasures.proofs.fillings.Goals as goal
 

@@ -1,9 +1,5 @@
-use Prim.Native.Nat.{◌-◌, ◌≤◌}
-use mathlib.Core.Path.{◌≡◌, refl, sym, ◌∙◌}
+use mathlib.Core.Path.{refl, sym, ◌∙◌}
 use native.Mathlib.Omega.{arith}
-use lib.ListN.{length, drop}
-use Rattle.theory.specs.Words.{keep, marks_ok}
-use Rattle.theory.specs.Erasures.{read}
 use Rattle.erasures.proofs.Scans.{read_large, read_on_lem, read_past, read-end}
 use Rattle.erasures.proofs.read_below.Goals.{then-a+else-k-a, else-a}
 use Rattle.erasures.proofs.read_below.Goals as goal

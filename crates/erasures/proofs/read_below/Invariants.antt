@@ -1,12 +1,9 @@
 -- read_below: every letter that was read is below k, tested one after another.
 use Prim.Native.Nat.{◌-◌, ◌≤◌}
-use mathlib.Core.Path.{◌≡◌, refl, sym, ◌∙◌}
-use mathlib.Core.Logic.{⊎_elim}
-use native.Mathlib.Omega.{arith}
+use mathlib.Core.Path.{◌≡◌}
 use lib.ListN.{length, drop}
 use Rattle.theory.specs.Words.{keep, marks_ok}
 use Rattle.theory.specs.Erasures.{read}
-use Rattle.erasures.proofs.Scans.{read_large, read_on_lem, read_past, read-end}
 use Rattle.erasures.proofs.read_below.Given as goal
 
 abbrev pub invariant-loop-i : goal.invariant-loop-i
