@@ -16,14 +16,15 @@
    it: each pointer is valid for its length (a null pointer only with length 0), and no tray overlaps another slice. The calls keep no state
    and may run in several threads at once, each with its own trays.
 
-   For x86-64 Linux only. The Rattle kit (docs/VERIFICATION.md says which) builds the library with `rt staticlib strip`; link it with
+   For Linux on x86-64 only, on processors from x86-64-v2 on. The Rattle kit (docs/VERIFICATION.md says which) builds the library with `rt lib` in
+   crates/strip; link it with
 
-       gcc -O2 -Iinclude host.c target/staticlib/libstrip.a -o host
+       gcc -O2 -Iinclude host.c crates/strip/out/libstrip.a -o host
 
-   Of the C library it needs memcpy and memset, and of the stack about 60 kB in mark_at, print_marks and picture_of, 39 kB in
-   misreadings_of, at most 34 kB in the others. On a 2.6 GHz machine and the strip (2, 60), rank_of, place_of and look_up take some 2 us
-   (look_up 3 us with 500 sections), turn_of some 0.1 us, word_of, mark_at and print_marks some 70 to 110 us, and each mark printed a few ns
-   more; short_place_of as rank_of, short_mark_at and short_print_marks as word_of; picture_of as print_marks, and 0.1 ms more for the largest file. The turn of a word that repeats itself, or has a long run of its
+   Of the C library it needs memcpy and memset, and of the stack about 62 kB in mark_at, print_marks, short_print_marks and picture_of, 35 kB in
+   misreadings_of, at most 33 kB in the others. On a 2.6 GHz machine and the strip (2, 60), as measured with the older kit and not again, rank_of,
+   place_of and look_up take some 2 us (look_up 3 us with 500 sections), turn_of some 0.1 us, word_of, mark_at and print_marks some 70 to 110 us, and
+   each mark printed a few ns more; short_place_of as rank_of, short_mark_at and short_print_marks as word_of; picture_of as print_marks, and 0.1 ms more for the largest file. The turn of a word that repeats itself, or has a long run of its
    smallest mark, takes up to 1.5 us, and its place up to 4 us. Shorter windows take less. look_up_smudged looks for 2 or 4 places on that
    strip, for up to 1,296 with 36 shades, which take some 0.5 ms. misreadings_of looks for the place of each change of a mark: 60 on that
    strip, up to 385 with 36 shades, in some 0.1 to 0.2 ms. bill_of takes some 2 us for 500 sections. */
