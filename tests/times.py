@@ -3,7 +3,7 @@
 
     bash .ci/run 2>&1 | tee log; python3 tests/times.py < log
 
-Seconds are those that `rt` prints: of one job, with the others beside it.
+Seconds are those that `rt` printed with the older kit: of one job, with the others beside it. Today's prints none, so there is no table of it.
 """
 import re
 import sys
