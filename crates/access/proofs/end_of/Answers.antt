@@ -2,7 +2,6 @@
 use mathlib.Core.Path.{refl, sym, ◌∙◌, ap}
 use Prim.Native.Nat.{◌*◌, ◌^◌}
 use native.Mathlib.Omega.{arith}
-use borrow.Author.Rules.{rules}
 use Rattle.ranks.proofs.Shapes.{counted, words_fit, rank-counted}
 use Rattle.access.specs.Holders.{end_in}
 use Rattle.access.proofs.end_of.Goals as goal

@@ -1,7 +1,6 @@
 -- `access::holder` finds the word of a ring that holds a position.
 use mathlib.Core.Path.{sym, subst}
 use Prim.Native.Nat.{◌<◌}
-use borrow.Author.Rules.{rules}
 use Rattle.shape.specs.Rings.{size_in}
 use Rattle.access.specs.Holders.{HoldsAt}
 use Rattle.access.proofs.holder.Goals as goal

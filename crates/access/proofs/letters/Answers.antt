@@ -2,7 +2,6 @@
 use mathlib.Core.Path.{sym, ◌∙◌, ap}
 use native.Mathlib.Omega.{arith}
 use lib.ListN.{length}
-use borrow.Author.Rules.{rules}
 use Rattle.shape.specs.Rings.{letters_of}
 use Rattle.shape.proofs.Limits.{limits}
 use Rattle.access.proofs.Reading.{in_room, held_place}

@@ -1,6 +1,5 @@
 -- `access::position` is the place of a letter of a held word.
 use native.Mathlib.Omega.{arith}
-use borrow.Author.Rules.{rules}
 use Rattle.rings.proofs.Moving.{held_fits}
 use Rattle.access.proofs.Ending.{ending_asks, ends_at}
 use Rattle.access.proofs.position.Goals as goal

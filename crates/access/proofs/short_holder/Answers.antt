@@ -2,7 +2,6 @@
 use mathlib.Core.Path.{refl}
 use native.Mathlib.Omega.{arith}
 use native.Mathlib.Nat.{div-le_self}
-use borrow.Author.Rules.{rules}
 use Rattle.shape.proofs.Limits.{limits}
 use Rattle.access.proofs.Holding.{index_within, index_small, short_is}
 use Rattle.access.proofs.short_holder.Goals as goal

@@ -2,7 +2,6 @@
 use mathlib.Core.Path.{refl, ap₂}
 use Prim.Native.Nat.{◌+◌, ◌-◌}
 use native.Mathlib.Omega.{arith}
-use borrow.Author.Rules.{rules}
 use Rattle.access.proofs.Holding.{holder_asks, holder_fits, holder_is}
 use Rattle.access.proofs.strip_holder.Goals as goal
 

@@ -1,7 +1,6 @@
 -- `locator::base` meets its contract: the rotation stays as it is, or the largest necklace below it is taken, with zeros for its last letters.
 use mathlib.Core.Path.{sym, ◌∙◌, ap, subst}
 use native.Mathlib.Omega.{arith}
-use borrow.Author.Rules.{rules}
 use Rattle.floors.specs.Lowering.{Lowerable}
 use Rattle.theory.specs.Floors.{necklace_below}
 use Rattle.locator.proofs.Bases.{base_kept, base_lowered}

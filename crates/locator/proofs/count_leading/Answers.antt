@@ -1,8 +1,5 @@
-use mathlib.Core.Path.{◌≡◌, sym, ◌∙◌}
-use Prim.Native.Nat.{◌+◌, ◌-◌, ◌≤◌}
+use mathlib.Core.Path.{sym, ◌∙◌}
 use native.Mathlib.Omega.{arith}
-use lib.ListN.{length, drop}
-use Rattle.locator.specs.Fits.{leading}
 use Rattle.locator.proofs.Leading.{leading_on, leading_stop, leading_end}
 use Rattle.locator.proofs.count_leading.Goals as goal
 

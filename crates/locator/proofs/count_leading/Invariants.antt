@@ -1,10 +1,8 @@
 -- `locator::count_leading` meets its contract: i letters b so far, and as many more as stand at the start of what is left.
-use mathlib.Core.Path.{◌≡◌, sym, ◌∙◌}
+use mathlib.Core.Path.{◌≡◌}
 use Prim.Native.Nat.{◌+◌, ◌-◌, ◌≤◌}
-use native.Mathlib.Omega.{arith}
 use lib.ListN.{length, drop}
 use Rattle.locator.specs.Fits.{leading}
-use Rattle.locator.proofs.Leading.{leading_on, leading_stop, leading_end}
 use Rattle.locator.proofs.count_leading.Given as goal
 
 abbrev pub invariant-loop-i : goal.invariant-loop-i

@@ -1,9 +1,8 @@
-use mathlib.Core.Path.{◌≡◌, refl, sym, ◌∙◌}
-use Prim.Native.Nat.{◌+◌, ◌-◌, ◌≤◌}
+use mathlib.Core.Path.{refl, sym, ◌∙◌}
+use Prim.Native.Nat.{◌+◌, ◌-◌}
 use native.Mathlib.Omega.{arith}
 use lib.ListN.{length}
-use Rattle.locator.specs.Fits.{fit_from, first_fit}
-use Rattle.locator.proofs.Fits.{Trial, trial_on, trial_differs, trial_ends, fit_start, fit_here, fit_on, fit_none}
+use Rattle.locator.proofs.Fits.{trial_on, trial_differs, trial_ends, fit_start, fit_here, fit_on, fit_none}
 use Rattle.locator.proofs.first_fit.Goals as goal
 
 pub search-init : goal.search-init

@@ -1,10 +1,9 @@
 -- `locator::first_fit` meets its contract: no offset before p fits, and at p the first j letters agree.
-use mathlib.Core.Path.{◌≡◌, refl, sym, ◌∙◌}
-use Prim.Native.Nat.{◌+◌, ◌-◌, ◌≤◌}
-use native.Mathlib.Omega.{arith}
+use mathlib.Core.Path.{◌≡◌}
+use Prim.Native.Nat.{◌-◌, ◌≤◌}
 use lib.ListN.{length}
 use Rattle.locator.specs.Fits.{fit_from, first_fit}
-use Rattle.locator.proofs.Fits.{Trial, trial_on, trial_differs, trial_ends, fit_start, fit_here, fit_on, fit_none}
+use Rattle.locator.proofs.Fits.{Trial}
 use Rattle.locator.proofs.first_fit.Given as goal
 
 abbrev pub invariant-loop-j : goal.invariant-loop-j

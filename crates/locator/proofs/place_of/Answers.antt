@@ -11,7 +11,6 @@ use Rattle.locator.proofs.Leading.{leading_length}
 use Rattle.buffers.proofs.Bytes.{over-whole}
 use Rattle.locator.proofs.Locates.{Located, place_small, base_counted}
 use Rattle.locator.proofs.Computed.{counts_inside, wrapped_inside, wrapped_place, turn_based, turn_located, letters_short, word_held, word_inside, text_room, text_place}
-use borrow.Author.Rules.{rules}
 use Rattle.locator.proofs.place_of.Goals.{After-base, After-count_leading-lead, After-letters-1, After-room-1, After-shortest_root-long, After-smallest-turn, After-text-2-1, Else-lead-count_leading}
 use Rattle.locator.proofs.place_of.Goals as goal
 

@@ -3,7 +3,6 @@ use mathlib.Core.Path.{sym, ap}
 use Prim.Native.Nat.{◌-◌}
 use borrow.Author.Tests.{eq-eqb, ne_eqb}
 use Rattle.theory.specs.Words.{pick}
-use borrow.Author.Rules.{rules}
 use Rattle.locator.proofs.wrapped.Goals as goal
 
 pub returns-then-lead-eq0 : goal.returns-then-lead-eq0

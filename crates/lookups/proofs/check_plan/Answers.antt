@@ -1,6 +1,5 @@
 -- `check_plan` tells a plan's fault.
 use mathlib.Core.Path.{sym}
-use borrow.Author.Rules.{rules}
 use Rattle.theory.specs.Plans.{shades, marks, plan_fault}
 use Rattle.calls.proofs.Checks.{refused_by, passed}
 use Rattle.lookups.proofs.check_plan.Goals as goal

@@ -1,6 +1,5 @@
 -- `fit_in` gives section, distance and rail of the lowest laid window that agrees; a refusal leaves the tray as it was.
 use mathlib.Core.Path.{◌≡◌, sym, ◌∙◌}
-use borrow.Author.Rules.{rules}
 use Rattle.theory.specs.Erasures.{smudge_fault}
 use Rattle.lookups.proofs.Fitting.{window_refused, none_fits, place_small, laid_there, found-lowest}
 use Rattle.lookups.proofs.fit_in.Goals.{Else-fault-ne0}

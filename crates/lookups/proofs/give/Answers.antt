@@ -5,7 +5,6 @@ use Prim.Native.Nat.{ℕ, ◌-◌}
 use native.Mathlib.Omega.{arith}
 use lib.ListN.{length}
 use borrow.Rule.Slice.PartMut.{put_mid}
-use borrow.Author.Rules.{rules}
 use Rattle.theory.proofs.Laying.{plan_good}
 use Rattle.buffers.specs.Buffers.{over}
 use Rattle.numbers.specs.Numbers.{put_be}

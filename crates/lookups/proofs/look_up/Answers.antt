@@ -1,6 +1,5 @@
 -- `look_up` gives the section that a window is read in, its distance there and the rail; a refusal leaves the tray as it was.
 use mathlib.Core.Path.{refl, ap}
-use borrow.Author.Rules.{rules}
 use Rattle.theory.specs.Strips.{place_of}
 use Rattle.theory.specs.Plans.{shades, marks}
 use Rattle.calls.proofs.Answers.{into_refused, into_given}

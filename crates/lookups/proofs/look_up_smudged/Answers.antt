@@ -1,5 +1,4 @@
 -- `look_up_smudged` opens the plan, and looks for a window that fits in one that is accepted; a refusal leaves the tray as it was.
-use borrow.Author.Rules.{rules}
 use Rattle.plans.proofs.Opening.{accepted, plan_fault_lem}
 use Rattle.lookups.proofs.Fitting.{smudged_refused}
 use Rattle.lookups.proofs.look_up_smudged.Goals as goal

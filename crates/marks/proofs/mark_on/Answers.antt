@@ -1,7 +1,6 @@
 -- `mark_on` puts the mark at a place of a ring into the tray as 8 bytes; a refusal leaves the tray as it was.
 use mathlib.Core.Path.{refl, ◌∙◌, ap₂}
 use native.Mathlib.Omega.{arith}
-use borrow.Author.Rules.{rules}
 use Rattle.shape.specs.Rings.{letter_of}
 use Rattle.calls.specs.Refusals.{ring_fault}
 use Rattle.calls.proofs.Checks.{passed}

@@ -1,6 +1,5 @@
 -- `place_of` puts the place of a window into the tray as 8 bytes; a refusal leaves the tray as it was.
 use mathlib.Core.Path.{refl, ◌∙◌, ap₂}
-use borrow.Author.Rules.{rules}
 use Rattle.theory.specs.Strips.{place_of}
 use Rattle.calls.specs.Refusals.{the_word_fault}
 use Rattle.calls.proofs.Checks.{passed, word_checked}

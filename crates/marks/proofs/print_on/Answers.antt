@@ -3,7 +3,6 @@ use mathlib.Core.Path.{◌≡◌, refl, sym}
 use Prim.Native.Nat.{ℕ, ◌<◌}
 use native.Mathlib.Omega.{arith}
 use lib.Seq.{length-take-le}
-use borrow.Author.Rules.{rules}
 use Rattle.shape.specs.declared.Lengths.{Lengths}
 use Rattle.shape.specs.Rings.{size_in}
 use Rattle.calls.specs.Refusals.{ring_fault}

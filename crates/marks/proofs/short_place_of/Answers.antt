@@ -1,6 +1,5 @@
 -- `short_place_of` puts the place of a window on the short ring into the tray as 8 bytes; a refusal leaves the tray as it was.
 use mathlib.Core.Path.{refl, ◌∙◌, ap₂}
-use borrow.Author.Rules.{rules}
 use Rattle.theory.specs.Shorts.{short_place_of}
 use Rattle.calls.specs.Refusals.{short_window_fault}
 use Rattle.calls.proofs.Checks.{passed}

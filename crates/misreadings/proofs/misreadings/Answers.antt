@@ -3,7 +3,6 @@ use mathlib.Core.Path.{refl, sym, ◌∙◌, ap}
 use native.Mathlib.Omega.{arith}
 use lib.ListN.{length, replicate}
 use lib.Seq.{length-take-le}
-use borrow.Author.Rules.{rules}
 use Rattle.theory.specs.Substitutions.{misread}
 use Rattle.buffers.specs.Buffers.{over}
 use Rattle.calls.proofs.Answers.{beside_refused, beside_small, beside_answer}

@@ -1,7 +1,6 @@
 -- `misreadings_of` puts the list and the number of its entries into their trays; a refusal leaves both as they were.
 use native.Mathlib.Omega.{arith}
 use lib.ListN.{length}
-use borrow.Author.Rules.{rules}
 use Rattle.theory.specs.Plans.{lookup_fault}
 use Rattle.theory.specs.Substitutions.{misread}
 use Rattle.calls.proofs.Answers.{both_short, untold, told}

@@ -1,6 +1,5 @@
 -- refused: the fault of the window, or 6.
 use mathlib.Core.Path.{sym, ◌∙◌, ap}
-use borrow.Author.Rules.{rules}
 use Rattle.theory.specs.Words.{first_of}
 use Rattle.theory.specs.Plans.{lookup_fault}
 use Rattle.theory.proofs.Faults.{first_some}

@@ -2,7 +2,6 @@
 use mathlib.Core.Path.{sym, ◌∙◌, ap}
 use native.Mathlib.Omega.{arith}
 use borrow.Author.Tests.{lt-ltb, le-ltb}
-use borrow.Author.Rules.{rules}
 use Rattle.theory.specs.Words.{pick}
 use Rattle.locator.specs.Fits.{cleared}
 use Rattle.short.proofs.base.Goals as goal

@@ -1,6 +1,5 @@
 -- `short::check_window` tests the word, then that no shorter one repeated is it.
 use native.Mathlib.Omega.{arith}
-use borrow.Author.Rules.{rules}
 use Rattle.short.proofs.Refusing.{word_refused, repeats, no_repeat}
 use Rattle.short.proofs.check_window.Goals as goal
 

@@ -3,7 +3,6 @@ use mathlib.Core.Path.{sym, ◌∙◌, ap}
 use Prim.Native.Nat.{◌*◌}
 use native.Mathlib.Omega.{arith}
 use borrow.Author.Tests.{eq-eqb, ne_eqb}
-use borrow.Author.Rules.{rules}
 use Rattle.theory.specs.Words.{pick}
 use Rattle.theory.specs.Shorts.{short_size}
 use Rattle.ranks.proofs.Shapes.{words_fit}

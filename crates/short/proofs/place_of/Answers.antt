@@ -5,7 +5,6 @@ use native.Mathlib.Omega.{arith}
 use lib.Dec.{ltb}
 use lib.ListN.{length, replicate}
 use lib.Seq.{length-take-le}
-use borrow.Author.Rules.{rules}
 use Rattle.theory.specs.Words.{pick, smallest}
 use Rattle.theory.specs.Shorts.{short_place_of}
 use Rattle.theory.proofs.Necklaces.{smallest-length}

@@ -1,6 +1,5 @@
 -- `is_lyndon` answers 1 for a Lyndon word and 0 for any other, after the refusals of the strip and of the word.
 use mathlib.Core.Path.{refl, sym, ◌∙◌, ap}
-use borrow.Author.Rules.{rules}
 use Rattle.theory.specs.Words.{pick, is_lyndon}
 use Rattle.calls.specs.Refusals.{the_word_fault}
 use Rattle.calls.proofs.Checks.{passed}

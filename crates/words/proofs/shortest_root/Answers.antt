@@ -1,6 +1,5 @@
 -- `shortest_root` answers the length of the word's shortest root, after the refusals of the strip and of the word.
 use mathlib.Core.Path.{refl}
-use borrow.Author.Rules.{rules}
 use Rattle.theory.specs.Words.{root}
 use Rattle.calls.specs.Refusals.{the_word_fault}
 use Rattle.calls.proofs.Checks.{passed}

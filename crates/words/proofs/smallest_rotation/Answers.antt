@@ -1,7 +1,6 @@
 -- `smallest_rotation` puts the smallest rotation into the tray and answers the turn to it; a refusal leaves the tray as it was, and its value is 0.
 use mathlib.Core.Path.{◌≡◌, refl}
 use native.Mathlib.Omega.{arith}
-use borrow.Author.Rules.{rules}
 use Rattle.theory.specs.Words.{smallest, least_turn}
 use Rattle.theory.proofs.Necklaces.{smallest-length}
 use Rattle.calls.specs.Refusals.{the_word_fault}

@@ -1,6 +1,5 @@
 -- `turn_of` puts the turn to the smallest rotation into the tray as 8 bytes; a refusal leaves the tray as it was.
 use mathlib.Core.Path.{refl}
-use borrow.Author.Rules.{rules}
 use Rattle.theory.specs.Words.{least_turn}
 use Rattle.calls.specs.Refusals.{the_word_fault}
 use Rattle.calls.proofs.Checks.{passed}
