@@ -60,12 +60,12 @@ class Clause:
 
     def __init__(self, text):
         fact = re.sub(r"--.*", "", text)
-        self.words = re.findall(r"[^\s(){},;]+", fact)
-        self.sides = [side.split() for side in re.sub(r"[()]", " ", fact).split("≡")]
+        self.words = re.findall(r"[^\s(){}⌜⌝,;]+", fact)
+        self.sides = [side.split() for side in re.sub(r"[⌜⌝()]", " ", fact).split("≡")]
 
     def says_nothing(self):
-        """Unit, or that something is what it is."""
-        return set(self.words) <= {"Unit", "×"} or (len(self.sides) == 2 and self.sides[0] == self.sides[1])
+        """Unit or ⊤, or that something is what it is."""
+        return set(self.words) <= {"Unit", "⊤", "×"} or (len(self.sides) == 2 and self.sides[0] == self.sides[1])
 
     def names_result(self):
         return any(word.split(".")[0] == "result" for word in self.words)

@@ -11,8 +11,8 @@ use lib.Seq.{take_at}
 use borrow.Author.Tests.{ltb-true, lt-ltb}
 use Rattle.theory.specs.Words.{root, marks_ok}
 use Rattle.theory.specs.Rings.{ring}
-use Rattle.theory.specs.Strips.{admitted, window, place_of}
-use Rattle.theory.specs.Shorts.{short_size, short_window, short_place_of}
+use Rattle.theory.specs.Strips.{admitted, strip, window, place_of}
+use Rattle.theory.specs.Shorts.{short_size, short_ring, short_window, short_place_of}
 use Rattle.shape.specs.declared.Lengths.{Lengths}
 use Rattle.shape.specs.declared.Lengths.TheVariants.{Divisors, Whole}
 use Rattle.shape.specs.Rings.{ok_of, size_of, letter_of, letters_of}
@@ -52,7 +52,7 @@ pub place_back : (k n p : ℕ) (t t' : List ℕ) (r : ℕ) → admitted k n ≡ 
 place_back k n p t t' r a h x f =
     let l = admitted_limits k n a in
     let w = window k n p in
-    let long : length w ≡ n = letters-length _ _ p n in
+    let long : length w ≡ n = letters-length (k ^ n) (strip k n) p n in
     let letters = strip-marks k n p n l.two l.some in
     let (number, _, _, one) = placed k n w t t' r a long letters x f in
     (number, sym (one p h refl), ap (drop 8) (number_fine (the_word_fault k n w) (place_of k n w) t (word_faultless k n w a long letters) x f).1)
@@ -81,7 +81,7 @@ pub short_place_back : (k n p : ℕ) (t t' : List ℕ) (r : ℕ) → admitted k 
 short_place_back k n p t t' r a h x f =
     let l = admitted_limits k n a in
     let w = short_window k n p in
-    let long : length w ≡ n = letters-length _ _ p n in
+    let long : length w ≡ n = letters-length (short_size k n) (short_ring k n) p n in
     let letters = marks_of Whole k n p n l.two l.some in
     let whole = ((short_ring_lem k n l.two l.some).only p w h refl).1 in
     let (number, _, _, one) = short_placed k n w t t' r a long letters whole x f in
