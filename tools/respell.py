@@ -6,6 +6,7 @@ usage: python3 tools/respell.py            at the top of the repository: rewrite
 
 A name that is declared in specs/ or in a file right in proofs/ is spelled anew everywhere. Names of src/ stay, and so do those that a proof of a
 function takes from what the check makes. Where two names would fall together, the lemma gets `_lem` at its end.
+It is for a tree in the older spelling, right after the kit's port.py, and runs once: docs/PORT.md says what it made.
 """
 
 import collections
