@@ -1,7 +1,7 @@
 -- The three demands as one record: the theorems about the definitions, and what follows for the bytes that the calls leave in trays.
 -- A call's promise says what it gives for every argument (specs/Says of words, ranking, marks, pictures, lookups, misreadings and bills; Cursors of cursors): here it stands as a premise.
 use Rattle.std.specs.Prelude.{◌≡◌, Bool, true, not, List, [], ◌∷◌, ◌++◌, ◌↔◌, ◌≢◌, ℕ, suc, ◌+◌, ◌*◌, ◌^◌, ◌≤◌, ◌<◌, pos, length, get_or, take, drop, replicate}
-use Rattle.theory.specs.Words.{below, up_to, turned, root as rootOf, repeated, power_to, keep, marks_ok, is_lyndon, how_many, rank, word_of}
+use Rattle.theory.specs.Words.{below, up_to, turned, root as root_of, repeated, power_to, keep, marks_ok, is_lyndon, how_many, rank, word_of}
 use Rattle.theory.specs.Sums.{rank_term}
 use Rattle.theory.specs.Floors.{necklace_up_to}
 use Rattle.theory.specs.Rings.{ring, modulo, position_in, path_end, path_letters}
@@ -128,16 +128,16 @@ pub record Demands : Type 0 where
   pub window-back : (k n : ℕ) (w t t' u u' : List ℕ) (r q : ℕ) → admitted k n ≡ true → length w ≡ n → marks_ok k w ≡ true
       → 8 ≤ length t → n ≤ length u → PlaceSays k n w t t' r → PrintSays k n (be 0 8 t') n u u' q → (r ≡ 0) × (q ≡ 0) × (u' ≡ over w u)
   -- every window that is no shorter word repeated is read at exactly one place of the short ring, and short_place_of writes that one
-  pub short_placed : (k n : ℕ) (w t t' : List ℕ) (r : ℕ) → admitted k n ≡ true → length w ≡ n → marks_ok k w ≡ true → rootOf w ≡ n → 8 ≤ length t
+  pub short_placed : (k n : ℕ) (w t t' : List ℕ) (r : ℕ) → admitted k n ≡ true → length w ≡ n → marks_ok k w ≡ true → root_of w ≡ n → 8 ≤ length t
       → ShortPlaceSays k n w t t' r
       → (r ≡ 0) × (be 0 8 t' < short_size k n) × (short_window k n (be 0 8 t') ≡ w) × ((p : ℕ) → p < short_size k n → short_window k n p ≡ w → p ≡ be 0 8 t')
   -- a window that is one is refused with 16; it is read nowhere there
-  pub short_repeats : (k n : ℕ) (w t t' : List ℕ) (r : ℕ) → admitted k n ≡ true → length w ≡ n → marks_ok k w ≡ true → rootOf w < n
+  pub short_repeats : (k n : ℕ) (w t t' : List ℕ) (r : ℕ) → admitted k n ≡ true → length w ≡ n → marks_ok k w ≡ true → root_of w < n
       → ShortPlaceSays k n w t t' r → (r ≡ 16) × (t' ≡ t) × ((p : ℕ) → p < short_size k n → short_window k n p ≢ w)
   -- there and back, as on the strip
   pub short_place_back : (k n p : ℕ) (t t' : List ℕ) (r : ℕ) → admitted k n ≡ true → p < short_size k n → 8 ≤ length t
       → ShortPlaceSays k n (short_window k n p) t t' r → (r ≡ 0) × (be 0 8 t' ≡ p) × (drop 8 t' ≡ drop 8 t)
-  pub short_window-back : (k n : ℕ) (w t t' u u' : List ℕ) (r q : ℕ) → admitted k n ≡ true → length w ≡ n → marks_ok k w ≡ true → rootOf w ≡ n
+  pub short_window-back : (k n : ℕ) (w t t' u u' : List ℕ) (r q : ℕ) → admitted k n ≡ true → length w ≡ n → marks_ok k w ≡ true → root_of w ≡ n
       → 8 ≤ length t → n ≤ length u → ShortPlaceSays k n w t t' r → ShortPrintSays k n (be 0 8 t') n u u' q → (r ≡ 0) × (q ≡ 0) × (u' ≡ over w u)
   -- print_marks and short_print_marks of any number of marks: each is the ring's, round the end as often as need be
   pub printed : (lengths : Lengths) (k n p c : ℕ) (t t' : List ℕ) (r : ℕ) → admitted k n ≡ true → p < size_of lengths k n → c ≤ length t
