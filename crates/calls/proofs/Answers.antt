@@ -1,4 +1,4 @@
--- The form of an answer, for any fault f: a refusal (also as a check tells it), a tray that is too small, the answer itself.
+-- The form of an answer, for any fault f: a refusal, a tray that is too small, the answer itself.
 use mathlib.Core.Path.{◌≡◌, refl, sym, ◌∙◌, ap, ap₂, subst}
 use mathlib.Core.List.{List, [], ◌++◌}
 use Prim.Native.Nat.{ℕ, zero, suc, ◌≤◌, ◌<◌}
@@ -6,34 +6,44 @@ use native.Mathlib.Omega.{arith}
 use lib.Dec.{eqb}
 use lib.ListN.{length, drop}
 use borrow.Author.Tests.{lt-ltb, le-ltb, ne_eqb}
+use Rattle.std.specs.Prelude.{Result, Ok, Err}
 use Rattle.theory.specs.Words.{pick, first_of, when}
 use Rattle.theory.proofs.Faults.{first_some, first_none, first_zero}
 use Rattle.buffers.specs.Buffers.{over}
 use Rattle.numbers.specs.Numbers.{put_be}
-use Rattle.calls.specs.declared.Value as DV
-use Rattle.calls.specs.declared.Checked.{Checked}
-use Rattle.calls.specs.declared.Checked.TheVariants.{Refused}
-use Rattle.calls.specs.Checks.{Checks}
+use Rattle.calls.specs.declared.refusal.Refusal.{Refusal}
+use Rattle.calls.specs.declared.refusal.Refusal.TheVariants.{NoSuchStrip, WrongWindow, BadMark, OffTheStrip, NoSuchWord, TrayTooSmall, TornPlan, CrookedPlan, NotLaid, LostCursor, TooSmudged, TwoShadesOnly, BadPicture, RollTooLong, NoSuchPrice, RepeatingWindow}
+use Rattle.calls.specs.Codes.{code, number_of, value_of}
 use Rattle.calls.specs.Answers.{Into, IntoValue, or_short, IntoBoth, Number, ValueIs}
-use Rattle.calls.proofs.Checks.{refused_by}
 
--- a number and a value
-pub value_refused : {f x : ℕ} (v : ℕ) {r : DV.Value} → f ≡ x → ¬ (x ≡ 0) → (r.number ≡ x) × (r.value ≡ 0) → ValueIs f v r
-value_refused {f} {x} v h z e = rw (h, ne_eqb x 0 z) e
+-- no refusal has the number 0
+pub code_some : (e : Refusal) → ¬ (code e ≡ 0)
+code_some NoSuchStrip z = omega arith
+code_some WrongWindow z = omega arith
+code_some BadMark z = omega arith
+code_some OffTheStrip z = omega arith
+code_some NoSuchWord z = omega arith
+code_some TrayTooSmall z = omega arith
+code_some TornPlan z = omega arith
+code_some CrookedPlan z = omega arith
+code_some NotLaid z = omega arith
+code_some LostCursor z = omega arith
+code_some TooSmudged z = omega arith
+code_some TwoShadesOnly z = omega arith
+code_some BadPicture z = omega arith
+code_some RollTooLong z = omega arith
+code_some NoSuchPrice z = omega arith
+code_some RepeatingWindow z = omega arith
 
-pub value_answer : {f x : ℕ} {v : ℕ} {r : DV.Value} → f ≡ 0 → x ≡ v → (r.number ≡ 0) × (r.value ≡ x) → ValueIs f v r
-value_answer h g e = rw h (e.0, e.1 ∙ g)
-
-pub value_refused_by : (f k n v : ℕ) {c : Checked} {x : ℕ} {r : DV.Value} → Checks f k n c → c ≡ Refused x → (r.number ≡ x) × (r.value ≡ 0) → ValueIs f v r
-value_refused_by f k n v e g h = let (is, some) = refused_by f k n e g in value_refused v is some h
+-- a value, or the number of a refusal
+pub value_told : (f v : ℕ) (r : Result ℕ Refusal) → ValueIs f v r → (number_of r ≡ f) × (value_of r ≡ pick (eqb f 0) v 0)
+value_told f v (Ok x) (z, e) = rw z (refl, e)
+value_told f v (Err e) h = rw (sym h, ne_eqb (code e) 0 (code_some e)) (refl, refl)
 
 -- bytes into a tray
 pub into_refused : {f r : ℕ} (b t : List ℕ) {t' : List ℕ} → f ≡ r → ¬ (r ≡ 0) → t' ≡ t → Into f (pick (eqb f 0) b []) t t' r
 into_refused {r = zero} b t h z g = absurd (z refl)
 into_refused {r = suc r} b t h z g = rw (h, ne_eqb (suc r) 0 z) (refl, g)
-
-pub into_refused_by : (f k n : ℕ) (b t : List ℕ) {c : Checked} {x : ℕ} {t' : List ℕ} → Checks f k n c → c ≡ Refused x → t' ≡ t → Into f (pick (eqb f 0) b []) t t' x
-into_refused_by f k n b t e g h = let (is, some) = refused_by f k n e g in into_refused b t is some h
 
 pub into_small : {f r : ℕ} (b t : List ℕ) {t' : List ℕ} → f ≡ 0 → length t < length b → r ≡ 6 → t' ≡ t → Into f (pick (eqb f 0) b []) t t' r
 into_small b t h l e g = rw (h, lt-ltb (length t) (length b) l) (e, g)
@@ -46,21 +56,14 @@ pub into_given : {f r : ℕ} {b x : List ℕ} (t : List ℕ) {t' : List ℕ} →
 into_given t h e g = rw (h, sym e) g
 
 -- bytes into a tray and a value beside them
-pub beside_refused : {f x : ℕ} (v : ℕ) (b t : List ℕ) {t' : List ℕ} {r : DV.Value} → f ≡ x → ¬ (x ≡ 0) → t' ≡ t → (r.number ≡ x) × (r.value ≡ 0)
-    → IntoValue f v (pick (eqb f 0) b []) t t' r
-beside_refused {f} {x} v b t {t'} h some g a = (subst (Into f (pick (eqb f 0) b []) t t') (sym a.0) (into_refused b t h some g), rw (a.0, ne_eqb x 0 some) a.1)
+pub beside_refused : (f v : ℕ) (b t : List ℕ) {t' : List ℕ} (e : Refusal) → code e ≡ f → t' ≡ t → IntoValue f v (pick (eqb f 0) b []) t t' (Err e)
+beside_refused f v b t {t'} e h g = (into_refused b t (sym h) (code_some e) g, rw (ne_eqb (code e) 0 (code_some e)))
 
-pub beside_refused_by : (f k n v : ℕ) (b t : List ℕ) {c : Checked} {x : ℕ} {t' : List ℕ} {r : DV.Value} → Checks f k n c → c ≡ Refused x → t' ≡ t
-    → (r.number ≡ x) × (r.value ≡ 0) → IntoValue f v (pick (eqb f 0) b []) t t' r
-beside_refused_by f k n v b t e g h a = let (is, some) = refused_by f k n e g in beside_refused v b t is some h a
+pub beside_small : {f : ℕ} (v : ℕ) (b t : List ℕ) {t' : List ℕ} → f ≡ 0 → length t < length b → t' ≡ t → IntoValue f v (pick (eqb f 0) b []) t t' (Err TrayTooSmall)
+beside_small v b t h l g = (into_small b t h l refl g, refl)
 
-pub beside_small : {f : ℕ} (v : ℕ) (b t : List ℕ) {t' : List ℕ} {r : DV.Value} → f ≡ 0 → length t < length b → (r.number ≡ 6) × (r.value ≡ 0) → t' ≡ t
-    → IntoValue f v (pick (eqb f 0) b []) t t' r
-beside_small v b t h l a g = (into_small b t h l a.0 g, rw a.0 a.1)
-
-pub beside_answer : {f v x : ℕ} (b t : List ℕ) {t' : List ℕ} {r : DV.Value} → f ≡ 0 → length b ≤ length t → x ≡ v → (r.number ≡ 0) × (r.value ≡ x)
-    → t' ≡ over b t → IntoValue f v (pick (eqb f 0) b []) t t' r
-beside_answer b t h l e a g = (into_answer b t h l a.0 g, rw a.0 (a.1 ∙ e))
+pub beside_answer : {f v x : ℕ} (b t : List ℕ) {t' : List ℕ} → f ≡ 0 → length b ≤ length t → x ≡ v → t' ≡ over b t → IntoValue f v (pick (eqb f 0) b []) t t' (Ok x)
+beside_answer b t h l e g = (into_answer b t h l refl g, e)
 
 -- bytes into a tray and a value into another; with room for the value only the fault counts
 pub or_room : (f : ℕ) (s : List ℕ) → 8 ≤ length s → or_short f s ≡ f
@@ -88,23 +91,18 @@ module _ (f v : ℕ) (b s t : List ℕ) where
     pub both_answer : {s' t' : List ℕ} → length b ≤ length t → t' ≡ over b t → s' ≡ over (put_be 8 v) s → IntoBoth f v b s s' t t' 0
     both_answer l is told = (into_answer b t both_fine l refl is, told)
 
-  -- an answer with a value beside it; the value is told in a tray that has room for it
-  module _ (room : 8 ≤ length s) {t' : List ℕ} {r : DV.Value} (e : IntoValue f v (pick (eqb f 0) b []) t t' r) where
-    beside_both : {x : ℕ} → r.number ≡ x → Into (or_short f s) (pick (eqb (or_short f s) 0) b []) t t' x
-    beside_both {x} is = subst (λ g. Into g (pick (eqb g 0) b []) t t' x) (sym (or_room f s room)) (subst (Into f (pick (eqb f 0) b []) t t') is e.0)
+  -- an answer with a value beside it, where there is room for the value
+  module _ (room : 8 ≤ length s) {t' : List ℕ} where
+    beside_both : {x : ℕ} → Into f (pick (eqb f 0) b []) t t' x → Into (or_short f s) (pick (eqb (or_short f s) 0) b []) t t' x
+    beside_both {x} e = subst (λ g. Into g (pick (eqb g 0) b []) t t' x) (sym (or_room f s room)) e
 
-    pub untold : ¬ (r.number ≡ 0) → IntoBoth f v b s s t t' r.number
-    untold some = (beside_both refl, rw (ne_eqb r.number 0 some))
+    pub untold : (e : Refusal) → IntoValue f v (pick (eqb f 0) b []) t t' (Err e) → IntoBoth f v b s s t t' (code e)
+    untold e h = (beside_both h.0, rw (ne_eqb (code e) 0 (code_some e)))
 
-    pub told : {s' : List ℕ} → r.number ≡ 0 → s' ≡ over (put_be 8 r.value) s → IntoBoth f v b s s' t t' 0
-    told z is =
-        let value : r.value ≡ v = rw z at e.1 in
-        (beside_both z, is ∙ ap (λ x. over (put_be 8 x) s) value)
+    pub told : {x : ℕ} {s' : List ℕ} → IntoValue f v (pick (eqb f 0) b []) t t' (Ok x) → s' ≡ over (put_be 8 x) s → IntoBoth f v b s s' t t' 0
+    told h is = (beside_both h.0, is ∙ ap (λ x. over (put_be 8 x) s) h.1)
 
 -- a number's 8 bytes into a tray
-pub number_refused_by : (f k n v : ℕ) (t : List ℕ) {c : Checked} {x : ℕ} {t' : List ℕ} → Checks f k n c → c ≡ Refused x → t' ≡ t → Number f v t t' x
-number_refused_by f k n v t e g h = into_refused_by f k n (put_be 8 v) t e g h
-
 pub number_small : {f r : ℕ} (v : ℕ) (t : List ℕ) {t' : List ℕ} → f ≡ 0 → length t < 8 → r ≡ 6 → t' ≡ t → Number f v t t' r
 number_small v t h l e g = into_small (put_be 8 v) t h l e g
 
@@ -113,16 +111,6 @@ number_answer v t h l e g = into_answer (put_be 8 v) t h l e g
 
 pub number_given : {f r v x : ℕ} (t : List ℕ) {t' : List ℕ} → f ≡ 0 → x ≡ v → Number 0 x t t' r → Number f v t t' r
 number_given t h e g = into_given t h (ap (put_be 8) e) g
-
--- a number and a value, then the value's 8 bytes into a tray
-module _ (f v : ℕ) (t : List ℕ) {a : DV.Value} (e : ValueIs f v a) where
-  pub value_untold : ¬ (a.number ≡ 0) → Number f v t t a.number
-  value_untold some = into_refused (put_be 8 v) t (sym e.0) some refl
-
-  pub value_told : {t' : List ℕ} {r : ℕ} → a.number ≡ 0 → Number 0 a.value t t' r → Number f v t t' r
-  value_told z g =
-      let fine : f ≡ 0 = sym e.0 ∙ z in
-      number_given t fine (rw fine at e).1 g
 
 -- bytes written over the first part of a tray
 pub part-over : {b x : List ℕ} {n : ℕ} (t : List ℕ) → x ≡ b → length b ≡ n → x ++ drop n t ≡ over b t

@@ -1,5 +1,4 @@
--- Laws of checked arguments and of answers.
+-- Laws of answers, and of the order of refusals.
 pub mod Order
 pub mod Numbers
-pub mod Checks
 pub mod Answers

@@ -1,26 +1,13 @@
--- What a check of arguments answers: the strip of k and n if there is no fault, else the fault's number.
-use Rattle.std.specs.Prelude.{◌≡◌, Bool, true, false, ℕ, ◌^◌, eqb}
+-- What a check of arguments answers: the strip of k and n if there is no fault, else the fault's refusal. f is the fault's number, 0 if there is none.
+use Rattle.std.specs.Prelude.{◌≡◌, Result, MatchResult, ℕ}
 use Rattle.shape.specs.declared.Strip as DS
-use Rattle.calls.specs.declared.Checked.{Checked}
-use Rattle.calls.specs.declared.Checked.TheVariants.{Strip, Refused}
+use Rattle.calls.specs.declared.refusal.Refusal.{Refusal}
+use Rattle.calls.specs.Codes.{code}
 
-abbrev pub pick_checked : Bool → Checked → Checked → Checked
-pick_checked true a b = a
-pick_checked false a b = b
+-- the strip of k and n
+abbrev pub StripOf : ℕ → ℕ → DS.Strip → Type 0
+StripOf k n s = (s.k ≡ k) × (s.n ≡ n)
 
-abbrev pub strip_of : ℕ → ℕ → DS.Strip
-strip_of k n = record { k = k; n = n; size = k ^ n }
-
--- f is the fault, 0 if there is none; shut, since the laws in proofs/Checks say all that a caller needs
-unfoldable pub checked_by : ℕ → ℕ → ℕ → Checked
-checked_by f k n = pick_checked (eqb f 0) (Strip (strip_of k n)) (Refused f)
-
--- the paper's number for each case of an answer
-abbrev pub number_of : Checked → ℕ
-number_of (Strip s) = 0
-number_of (Refused f) = f
-
--- what a check promises, whose fault is f
-pub record Checks (f k n : ℕ) (r : Checked) : Type 0 where
-  pub number : number_of r ≡ f
-  pub is : r ≡ checked_by f k n
+-- what a check promises
+abbrev pub Checks : ℕ → ℕ → ℕ → Result DS.Strip Refusal → Type 0
+Checks f k n r = MatchResult r (λ s. (f ≡ 0) × StripOf k n s) (λ e. code e ≡ f)

@@ -1,65 +1,60 @@
-// What all calls share: the numbers of refusals, arguments that are checked before a call goes on, and numbers as answers.
+// What all calls share: the refusals, arguments that are checked before a call goes on, and numbers as answers.
 #![tactic(auto)]
 
+ghost use Rattle.std.specs.Prelude.{◌≡◌};
 ghost use Rattle.theory.specs.Strips.{strip_fault};
+ghost use Rattle.calls.specs.Codes.{number_of};
 ghost use Rattle.calls.specs.Refusals.{the_word_fault};
 ghost use Rattle.calls.specs.Checks.{Checks};
 ghost use Rattle.calls.specs.Answers.{Number};
 
-use shape::{Made, Strip};
+use shape::Strip;
 
-pub mod refusals;
+pub mod refusal;
 
-// What a call answers by value: the number of a refusal, or 0 and the value. A refusal's value is 0.
-#[derive(Clone, Copy)]
-pub struct Value {
-    pub number: u8,
-    pub value: u64,
-}
-
-// Arguments that were checked: the strip that they are about, or the number of the refusal.
-#[derive(Clone, Copy)]
-pub enum Checked {
-    Strip(Strip),
-    Refused(u8),
-}
+pub use refusal::Refusal;
 
 // A number in a tray has so many bytes.
 pub const NUMBER: usize = 8;
 
 // Is there such a strip?
-pub fn check_strip(k: u64, n: u64) -> Checked
+pub fn check_strip(k: u64, n: u64) -> Result<Strip, Refusal>
     ensures { Checks (strip_fault k n) k n result }
 {
-    match Strip::new(k, n) {
-        Made::Fine(strip) => Checked::Strip(strip),
-        Made::Refused => Checked::Refused(refusals::NO_SUCH_STRIP),
-    }
+    Strip::new(k, n).ok_or(Refusal::NoSuchStrip)
 }
 
 // And is it a word of n marks on it?
-pub fn check_word(k: u64, n: u64, word: &[u8]) -> Checked
+pub fn check_word(k: u64, n: u64, word: &[u8]) -> Result<Strip, Refusal>
     ensures { Checks (the_word_fault k n word.now) k n result }
 {
-    let Made::Fine(strip) = Strip::new(k, n) else {
-        return Checked::Refused(refusals::NO_SUCH_STRIP);
-    };
+    let strip = check_strip(k, n)?;
     if word.len() as u64 != n {
-        return Checked::Refused(refusals::WRONG_WINDOW);
+        return Err(Refusal::WrongWindow);
     }
     if lyndon::letters_below(k, word) {
-        return Checked::Strip(strip);
+        return Ok(strip);
     }
-    Checked::Refused(refusals::BAD_MARK)
+    Err(Refusal::BadMark)
 }
 
-// A number into a tray, the highest byte first; 6 if the tray is too small.
-pub fn give(value: u64, tray: &mut [u8]) -> u8
-    ensures { Number 0 value tray.old tray.new result }
+// A number into a tray, the highest byte first.
+pub fn give(value: u64, tray: &mut [u8]) -> Result<(), Refusal>
+    ensures { Number 0 value tray.old tray.new (number_of result) }
 {
     if tray.len() < NUMBER {
-        return refusals::TRAY_TOO_SMALL;
+        return Err(Refusal::TrayTooSmall);
     }
     numbers::put64(value, tray);
-    0
+    Ok(())
+}
+
+// The number of an answer for C: 0, or the refusal's.
+pub fn number(answer: Result<(), Refusal>) -> u8
+    ensures { result ≡ number_of answer }
+{
+    match answer {
+        Ok(()) => 0,
+        Err(refusal) => u8::from(refusal),
+    }
 }

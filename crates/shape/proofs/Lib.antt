@@ -1,5 +1,4 @@
 -- Laws of powers under the limit, and the limits of a strip.
 pub mod Powers
 pub mod Limits
-pub mod Making
 pub mod Rings

@@ -7,7 +7,6 @@ use borrow.Author.Tests.{leb-true, le-leb}
 use Rattle.theory.specs.Strips.{admitted}
 use Rattle.theory.proofs.Base.{and_l, and_r, and_in}
 use Rattle.shape.specs.declared.Strip as DS
-use Rattle.shape.specs.Shapes.{Shaped}
 
 pub record Limits (k n : ℕ) : Type 0 where
   pub two : 2 ≤ k
@@ -33,5 +32,6 @@ pub limits_admit : (k n : ℕ) → Limits k n → admitted k n ≡ true
 limits_admit k n l =
     and_in (le-leb 2 k l.two) (and_in (le-leb k 36 l.most) (and_in (le-leb 1 n l.some) (and_in (le-leb n 60 l.short) (le-leb (k ^ n) (2 ^ 60) l.range))))
 
-pub limits : {s : DS.Strip} → Shaped s → Limits s.k s.n
-limits {s} h = admitted_limits s.k s.n h.admit
+-- every strip keeps them
+pub limits : (s : DS.Strip) → Limits s.k s.n
+limits s = admitted_limits s.k s.n s.admit

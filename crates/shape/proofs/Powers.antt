@@ -6,9 +6,6 @@ use native.Mathlib.Nat.{le_refl, lt_of_lt_of_le, div-add-mod', div-le_self, pow-
 use native.Mathlib.Decide.{dec_le}
 use lib.Pow.{pow-add}
 use borrow.Author.Tests.{le-leb, lt-leb}
-use Rattle.shape.specs.declared.Power.{Power}
-use Rattle.shape.specs.declared.Power.TheVariants.{Is, Large}
-use Rattle.shape.specs.Shapes.{power_of}
 
 -- k^n is the square of k^(n/2), for odd n times k
 pub even_power : (k n : ℕ) → n % 2 ≡ 0 → k ^ n ≡ k ^ (n / 2) * k ^ (n / 2)
@@ -36,29 +33,6 @@ product_large a k s h = subst (λ x. 2 ^ 60 < x) (mul_comm k a) ((div-lt_iff_lt-
 
 pub product_fits : (a k : ℕ) → 0 < a → k ≤ 2 ^ 60 / a → a * k ≤ 2 ^ 60
 product_fits a k s h = subst (λ x. x ≤ 2 ^ 60) (mul_comm k a) ((le-div_iff_mul-le s).0 h)
-
--- the answer of a power, in and out
-pub is_power : (k n : ℕ) {v : ℕ} → k ^ n ≤ 2 ^ 60 → k ^ n ≡ v → Is v ≡ power_of k n
-is_power k n {v} h e = sym (rw (le-leb (k ^ n) (2 ^ 60) h, e))
-
-pub large_power : (k n : ℕ) → 2 ^ 60 < k ^ n → Large ≡ power_of k n
-large_power k n h = sym (rw (lt-leb (k ^ n) (2 ^ 60) h))
-
-pub data Answer (k n : ℕ) : Type 0 where
-  within : k ^ n ≤ 2 ^ 60 → power_of k n ≡ Is (k ^ n) → Answer k n
-  beyond : 2 ^ 60 < k ^ n → power_of k n ≡ Large → Answer k n
-
-pub answer : (k n : ℕ) → Answer k n
-answer k n = elim (dec_le (k ^ n) (2 ^ 60)) [ yes h ↦ within h (rw (le-leb (k ^ n) (2 ^ 60) h)) | no h ↦ past (omega arith) ]
-  where
-    past : 2 ^ 60 < k ^ n → Answer k n
-    past h = beyond h (rw (lt-leb (k ^ n) (2 ^ 60) h))
-
-pub power_value : (k n : ℕ) {v : ℕ} {r : Power} → r ≡ power_of k n → r ≡ Is v → (v ≡ k ^ n) × (k ^ n ≤ 2 ^ 60)
-power_value k n {v} {r} e f = elim (answer k n) [ within h g ↦ (cc, h) | beyond h g ↦ absurd (let z : ◌≡◌ {A = ℕ} 0 1 = cc in omega arith) ]
-
-pub power_past : (k n : ℕ) {r : Power} → r ≡ power_of k n → r ≡ Large → 2 ^ 60 < k ^ n
-power_past k n {r} e f = elim (answer k n) [ within h g ↦ absurd (let z : ◌≡◌ {A = ℕ} 0 1 = cc in omega arith) | beyond h g ↦ h ]
 
 -- a power above 1 has a base of 1 or more, so more factors do not make it smaller
 zero_power : (m : ℕ) → 0 ^ m ≤ 1

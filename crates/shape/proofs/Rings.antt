@@ -13,7 +13,6 @@ use Rattle.theory.proofs.Rings.{strip-long, ring-marks}
 use Rattle.theory.proofs.Strips.{cursors}
 use Rattle.theory.proofs.Shorts.{whole_allowed, short_long, short_most, short_ring_lem, short_cursors}
 use Rattle.shape.specs.declared.Strip as DS
-use Rattle.shape.specs.Shapes.{Shaped}
 use Rattle.shape.specs.declared.Lengths.{Lengths}
 use Rattle.shape.specs.declared.Lengths.TheVariants.{Divisors, Whole}
 use Rattle.shape.specs.Rings.{ok_of, size_of, size_in, letters_of}
@@ -26,9 +25,9 @@ pub long_of : (r : Lengths) (k n : ℕ) → 2 ≤ k → 1 ≤ n → length (ring
 long_of Divisors k n h s = strip-long k n h s
 long_of Whole k n h s = short_long k n
 
-pub size_in_lem : (r : Lengths) {s : DS.Strip} → Shaped s → size_in r s ≡ size_of r s.k s.n
-size_in_lem Divisors h = h.size
-size_in_lem Whole h = refl
+pub size_in_lem : (r : Lengths) (s : DS.Strip) → size_in r s ≡ size_of r s.k s.n
+size_in_lem Divisors s = s.whole
+size_in_lem Whole s = refl
 
 pub size-most : (r : Lengths) (k n : ℕ) → 2 ≤ k → 1 ≤ n → size_of r k n ≤ k ^ n
 size-most Divisors k n h s = le_refl (k ^ n)

@@ -1,3 +1,3 @@
--- What the power and the strip's constructor answer.
+-- What the strip's constructor answers, words on a strip, and the two rings.
 pub mod Shapes
 pub mod Rings

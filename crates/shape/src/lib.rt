@@ -1,21 +1,17 @@
 // The shape of a strip: its letters k, its window length n, its k^n positions.
 #![tactic(auto)]
 
-ghost use Rattle.std.specs.Prelude.{◌≡◌};
-ghost use Rattle.shape.specs.Shapes.{power_of, Makes};
+ghost use Rattle.std.specs.Prelude.{◌≡◌, ◌^◌, ◌≤◌, ◌<◌, true, MatchOption};
+ghost use Rattle.theory.specs.Strips.{admitted};
 
-#[derive(Clone, Copy)]
-pub enum Power {
-    Is(u64),
-    Large,
-}
-
-// A strip that is admitted. `size` is k^n.
+// A strip that is admitted: there is no other value of this type.
 #[derive(Clone, Copy)]
 pub struct Strip {
     pub k: u64,
     pub n: u64,
     pub size: u64,
+    pub ghost admit: { admitted k n ≡ true },
+    pub ghost whole: { size ≡ k ^ n },
 }
 
 // The lengths of the words that a ring joins: all that divide n, which makes the strip, or n alone, which makes the short ring.
@@ -25,42 +21,36 @@ pub enum Lengths {
     Whole,
 }
 
-#[derive(Clone, Copy)]
-pub enum Made {
-    Fine(Strip),
-    Refused,
-}
-
 // No square of a number above this stays within Strip::PLACES.
 const ROOT: u64 = 1 << 30;
 
 // k^n, by the power with half the exponent; refuses before a product passes Strip::PLACES.
-fn pow(k: u64, n: u64) -> Power
-    ensures { result ≡ power_of k n }
+fn pow(k: u64, n: u64) -> Option<u64>
+    ensures { MatchOption result (2 ^ 60 < k ^ n) (λ p. (p ≡ k ^ n) × (p ≤ 2 ^ 60)) }
 {
     if n == 0 {
-        return Power::Is(1);
+        return Some(1);
     }
-    let Power::Is(half) = pow(k, n / 2) else {
-        return Power::Large;
-    };
+    let half = pow(k, n / 2)?;
     if ROOT < half {
-        return Power::Large;
+        return None;
     }
     let square = half * half;
     if n % 2 == 0 {
-        return Power::Is(square);
+        return Some(square);
     }
     if square == 0 {
-        return Power::Is(0);
+        return Some(0);
     }
     if Strip::PLACES / square < k {
-        return Power::Large;
+        return None;
     }
-    Power::Is(square * k)
+    Some(square * k)
 }
 
 impl Strip {
+    ghost use Rattle.shape.specs.Shapes.{Makes};
+
     // Letters, window length, positions: at most these.
     pub const SHADES: u64 = 36;
 
@@ -72,24 +62,22 @@ impl Strip {
     pub const LONGEST: usize = 60;
 
     // The strip of k and n, if it is admitted.
-    pub fn new(k: u64, n: u64) -> Made
+    pub fn new(k: u64, n: u64) -> Option<Strip>
         ensures { Makes k n result }
     {
         if k < 2 {
-            return Made::Refused;
+            return None;
         }
         if Self::SHADES < k {
-            return Made::Refused;
+            return None;
         }
         if n < 1 {
-            return Made::Refused;
+            return None;
         }
         if Self::MARKS < n {
-            return Made::Refused;
+            return None;
         }
-        let Power::Is(size) = pow(k, n) else {
-            return Made::Refused;
-        };
-        Made::Fine(Strip { k, n, size })
+        let size = pow(k, n)?;
+        Some(Strip { k, n, size })
     }
 }
