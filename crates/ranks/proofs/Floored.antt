@@ -28,15 +28,15 @@ copied w room h e =
 
 pub lettered : {s : DS.Strip} {w u : List ℕ} → WordOn s w → u ≡ w → Lettered s.k u
 lettered {s} h e =
-    let l = limits h.shaped in
+    let l = limits s in
     subst (Lettered s.k) (sym e) (record { some = omega (arith, l.two); byte = omega (arith, l.most); marks = h.marks })
 
 -- the largest necklace not above a word of the strip
 pub floored : {s : DS.Strip} {w : List ℕ} → WordOn s w → let v = necklace_up_to s.k w in WordOn s v × Prenecklace v
-floored {s} {w} h = let r = floor_is s.k w h.marks in (record { shaped = h.shaped; long = r.0 ∙ h.long; marks = r.1 }, smallest_pre _ r.2)
+floored {s} {w} h = let r = floor_is s.k w h.marks in (record { long = r.0 ∙ h.long; marks = r.1 }, smallest_pre _ r.2)
 
 -- the sum of its sizes of CS is n times the word's rank
 pub floored_sum : {s : DS.Strip} {w t : List ℕ} → WordOn s w → Sized s.k (necklace_up_to s.k w) t → total s.n t ≡ pos (s.n * rank s.k w)
 floored_sum {s} {w} h t =
     let (on, pre) = floored h in
-    rank-sum s.k s.n _ _ on.long (limits h.shaped).some pre t ∙ ap (λ r. pos (s.n * r)) (floor_rank s.k w h.marks)
+    rank-sum s.k s.n _ _ on.long (limits s).some pre t ∙ ap (λ r. pos (s.n * r)) (floor_rank s.k w h.marks)

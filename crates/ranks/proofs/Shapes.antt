@@ -10,13 +10,13 @@ use Rattle.shape.specs.declared.Strip as DS
 use Rattle.automaton.specs.Tables.{Counted, Sized}
 use Rattle.moebius.specs.Summands.{Summable, Powers}
 use Rattle.shape.specs.declared.Lengths.TheVariants.{Whole}
-use Rattle.shape.specs.Shapes.{Shaped, WordOn}
+use Rattle.shape.specs.Shapes.{WordOn}
 use Rattle.shape.proofs.Limits.{Limits, limits}
 use Rattle.shape.proofs.Rings.{size-most}
 
 pub counted : {s : DS.Strip} {w : List ℕ} → WordOn s w → Counted s.k w
 counted {s} {w} h =
-    let l = limits h.shaped in
+    let l = limits s in
     record {
       two = l.two;
       marks = h.marks;
@@ -32,8 +32,8 @@ pub powers_summable : {k n : ℕ} {t : List ℕ} → Limits k n → Powers k n t
 powers_summable l t = record { two = l.two; some = l.some; short = l.short; range = l.range; size = t.size; small = t.small }
 
 -- n letters for each of so many words are no more than the strip has, also up to any word's rank
-pub words_fit : {s : DS.Strip} {words : ℕ} → Shaped s → words ≤ how_many s.k s.n → s.n * words ≤ 2 ^ 60
-words_fit {s} h l = let r = limits h in omega (arith, mul-le-mul_left s.n l, size-most Whole s.k s.n r.two r.some, r.range)
+pub words_fit : (s : DS.Strip) {words : ℕ} → words ≤ how_many s.k s.n → s.n * words ≤ 2 ^ 60
+words_fit s l = let r = limits s in omega (arith, mul-le-mul_left s.n l, size-most Whole s.k s.n r.two r.some, r.range)
 
 pub rank-counted : {s : DS.Strip} {v : List ℕ} → WordOn s v → rank s.k v ≤ how_many s.k s.n
 rank-counted {s} {v} h = subst (λ m. rank s.k v ≤ how_many s.k m) h.long (rank_most s.k v)

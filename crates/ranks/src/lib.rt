@@ -8,7 +8,7 @@ ghost use Rattle.theory.specs.Lists.{Scratch};
 ghost use Rattle.theory.specs.Prenecklaces.{Prenecklace};
 ghost use Rattle.automaton.specs.Tables.{cells, Sized};
 ghost use Rattle.moebius.specs.Summands.{Summable, Whole, total};
-ghost use Rattle.shape.specs.Shapes.{Shaped, WordOn};
+ghost use Rattle.shape.specs.Shapes.{WordOn};
 
 use shape::Strip;
 
@@ -57,7 +57,6 @@ pub fn of_word(s: Strip, w: &[u8]) -> u64
 
 // The number of Lyndon words of length n.
 pub fn count(s: Strip) -> u64
-    requires { Shaped s }
     ensures { result ≡ how_many s.k s.n }
 {
     let sizes = moebius::powers(s.k, s.n);

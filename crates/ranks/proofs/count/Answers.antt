@@ -12,15 +12,15 @@ use Rattle.ranks.proofs.count.Goals.{After-powers-sizes}
 use Rattle.ranks.proofs.count.Goals as goal
 
 pub powers-sizes-requires : goal.powers-sizes-requires
-powers-sizes-requires c = let l = limits c.requires in (omega (arith, l.two, l.some), omega (arith, l.most, l.short), l.range)
+powers-sizes-requires c = let l = limits c.args.s in (omega (arith, l.two, l.some), omega (arith, l.most, l.short), l.range)
 
 -- the powers are there
 many : (c : After-powers-sizes) → let s = c.args.s in total s.n c.powers-sizes.result ≡ pos (s.n * how_many s.k s.n)
-many c = let s = c.args.s in count_total s.k s.n c.powers-sizes.result (limits c.requires).some c.powers-sizes.ensures
+many c = let s = c.args.s in count_total s.k s.n c.powers-sizes.result (limits c.args.s).some c.powers-sizes.ensures
 
 pub quotient-requires : goal.quotient-requires
-quotient-requires c = (powers_summable (limits c.requires) c.powers-sizes.ensures, (_, many (goal.at.quotient-requires c).After-powers-sizes))
+quotient-requires c = (powers_summable (limits c.args.s) c.powers-sizes.ensures, (_, many (goal.at.quotient-requires c).After-powers-sizes))
 
 pub returns : goal.returns
 returns c =
-    only c.args.s.n (limits c.requires).some c.quotient.ensures (many (goal.at.returns c).After-powers-sizes)
+    only c.args.s.n (limits c.args.s).some c.quotient.ensures (many (goal.at.returns c).After-powers-sizes)

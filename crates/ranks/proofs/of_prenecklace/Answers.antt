@@ -17,12 +17,12 @@ sizes-sizes-requires c = let p = c.requires in (counted p.0, p.1, p.2)
 -- the sizes are there
 ranked : (c : After-sizes-sizes) → let a = c.args in total a.s.n c.sizes-sizes.result ≡ pos (a.s.n * rank a.s.k a.w.now)
 ranked c =
-    rank-sum c.args.s.k c.args.s.n c.args.w.now _ c.requires.0.long (limits c.requires.0.shaped).some c.requires.1 c.sizes-sizes.ensures.0
+    rank-sum c.args.s.k c.args.s.n c.args.w.now _ c.requires.0.long (limits c.args.s).some c.requires.1 c.sizes-sizes.ensures.0
 
 pub quotient-requires : goal.quotient-requires
 quotient-requires c =
-    (sized_summable (limits c.requires.0.shaped) c.sizes-sizes.ensures.0, (_, ranked (goal.at.quotient-requires c).After-sizes-sizes))
+    (sized_summable (limits c.args.s) c.sizes-sizes.ensures.0, (_, ranked (goal.at.quotient-requires c).After-sizes-sizes))
 
 pub returns : goal.returns
 returns c =
-    (only c.args.s.n (limits c.requires.0.shaped).some c.quotient.ensures (ranked (goal.at.returns c).After-sizes-sizes), record { size = search rules })
+    (only c.args.s.n (limits c.args.s).some c.quotient.ensures (ranked (goal.at.returns c).After-sizes-sizes), record { size = search rules })

@@ -18,7 +18,7 @@ use Rattle.ranks.proofs.sizes_of.Goals as goal
 
 -- the word is no longer than the buffer
 short : {s : Strip} {w : List ℕ} → WordOn s w → length w ≤ 60
-short h = omega (arith, h.long, (limits h.shaped).short)
+short {s} h = omega (arith, h.long, (limits s).short)
 
 pub slice_bounds-room-end : goal.slice_bounds-room-end
 slice_bounds-room-end c = short c.requires
