@@ -1,4 +1,4 @@
--- A place on a ring or behind it: its fault, and what a check that passed says.
+-- A place on a ring or behind it, and its fault.
 use mathlib.Core.Path.{◌≡◌, ◌∙◌, ap₂}
 use Prim.Native.Nat.{ℕ, ◌≤◌, ◌<◌}
 use native.Mathlib.Omega.{arith}
@@ -11,26 +11,21 @@ use Rattle.shape.specs.declared.Strip as DS
 use Rattle.shape.specs.declared.Lengths.{Lengths}
 use Rattle.shape.specs.Rings.{size_of, size_in}
 use Rattle.shape.proofs.Rings.{size_in_lem}
-use Rattle.calls.specs.declared.Checked.{Checked}
-use Rattle.calls.specs.declared.Checked.TheVariants.{Strip}
 use Rattle.calls.specs.Refusals.{ring_fault}
-use Rattle.calls.specs.Checks.{Checks}
-use Rattle.calls.proofs.Checks.{passed, StripIs, strip_is}
+use Rattle.calls.specs.Checks.{StripOf}
 
-module _ (lengths : Lengths) (k n : ℕ) (p : ℕ) where
-  pub place_large : size_of lengths k n ≤ p → when (leb (size_of lengths k n) p) 4 ≡ 4
-  place_large h = rw (le-leb (size_of lengths k n) p h)
+module _ (lengths : Lengths) (k n : ℕ) (p : ℕ) (s : DS.Strip) (on : StripOf k n s) where
+  pub size_of_lem : size_in lengths s ≡ size_of lengths k n
+  size_of_lem = size_in_lem lengths s ∙ ap₂ (size_of lengths) on.0 on.1
 
-  pub place_fine : p < size_of lengths k n → when (leb (size_of lengths k n) p) 4 ≡ 0
-  place_fine h = rw (lt-leb (size_of lengths k n) p h)
+  pub place_large : strip_fault k n ≡ 0 → size_in lengths s ≤ p → 4 ≡ ring_fault lengths k n p
+  place_large e h = rw (e, le-leb (size_of lengths k n) p (omega (arith, size_of_lem)))
 
-  pub size_of_lem : {s : DS.Strip} → StripIs k n s → size_in lengths s ≡ size_of lengths k n
-  size_of_lem on = size_in_lem lengths on.shaped ∙ ap₂ (size_of lengths) on.letters on.marks
+  pub place_fine : strip_fault k n ≡ 0 → p < size_in lengths s → ring_fault lengths k n p ≡ 0
+  place_fine e h = rw (e, lt-leb (size_of lengths k n) p (omega (arith, size_of_lem)))
 
-  -- the check, passed
-  pub place_checked : {c : Checked} {s : DS.Strip} → Checks (ring_fault lengths k n p) k n c → c ≡ Strip s → StripIs k n s × (p < size_in lengths s)
-  place_checked e g =
-      let on = strip_is (ring_fault lengths k n p) k n (λ z. (first_none (strip_fault k n) _ z).0) e g in
-      let below : p < size_of lengths k n =
-      leb-false (size_of lengths k n) p (when-none _ 4 (λ z. omega arith) (first_none (strip_fault k n) _ (passed (ring_fault lengths k n p) k n e g).0).1) in
-      (on, omega (arith, below, size_of_lem on))
+  -- a place without fault
+  pub place_within : ring_fault lengths k n p ≡ 0 → p < size_in lengths s
+  place_within e =
+      let below : p < size_of lengths k n = leb-false (size_of lengths k n) p (when-none _ 4 (λ z. omega arith) (first_none (strip_fault k n) _ e).1) in
+      omega (arith, below, size_of_lem)

@@ -2,17 +2,15 @@
 #![tactic(auto)]
 
 ghost use Rattle.std.specs.Prelude.{◌≡◌};
-ghost use Rattle.shape.specs.Shapes.{Shaped};
 ghost use Rattle.shape.specs.Rings.{size_in};
 ghost use Rattle.calls.specs.Refusals.{ring_fault};
 ghost use Rattle.calls.specs.Checks.{Checks};
 
-use calls::{Checked, refusals};
+use calls::Refusal;
 use shape::{Lengths, Strip};
 
 // The places of a ring: k^n on the strip, n for each of its words on the short ring.
 pub fn size(lengths: Lengths, s: Strip) -> u64
-    requires { Shaped s }
     ensures { result ≡ size_in lengths s }
 {
     match lengths {
@@ -22,16 +20,12 @@ pub fn size(lengths: Lengths, s: Strip) -> u64
 }
 
 // Is there such a strip, and is it a place on its ring?
-pub fn check_place(lengths: Lengths, k: u64, n: u64, place: u64) -> Checked
+pub fn check_place(lengths: Lengths, k: u64, n: u64, place: u64) -> Result<Strip, Refusal>
     ensures { Checks (ring_fault lengths k n place) k n result }
 {
-    match calls::check_strip(k, n) {
-        Checked::Refused(number) => Checked::Refused(number),
-        Checked::Strip(strip) => {
-            if size(lengths, strip) <= place {
-                return Checked::Refused(refusals::OFF_THE_STRIP);
-            }
-            Checked::Strip(strip)
-        }
+    let strip = calls::check_strip(k, n)?;
+    if size(lengths, strip) <= place {
+        return Err(Refusal::OffTheStrip);
     }
+    Ok(strip)
 }

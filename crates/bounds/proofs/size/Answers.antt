@@ -10,7 +10,7 @@ use Rattle.bounds.proofs.size.Goals as goal
 
 pub overflow_mul-result : goal.overflow_mul-result
 overflow_mul-result c =
-    omega (arith, words_fit c.requires (le_refl (how_many c.args.s.k c.args.s.n)), ap (λ r. c.args.s.n * r) c.count.ensures)
+    omega (arith, words_fit c.args.s (le_refl (how_many c.args.s.k c.args.s.n)), ap (λ r. c.args.s.n * r) c.count.ensures)
 
 pub returns-in-Whole : goal.returns-in-Whole
 returns-in-Whole c =
