@@ -1,5 +1,4 @@
 -- What the proofs of the functions lean on: the test of the sections, the tests of a plan, the section of a place.
 pub mod Straight
-pub mod Tests
 pub mod Places
 pub mod Opening

@@ -2,14 +2,14 @@
 #![tactic(auto)]
 
 ghost use Rattle.std.specs.Prelude.{◌≡◌, false, ◌^◌, ◌<◌};
-ghost use Rattle.theory.specs.Plans.{end_of, torn, straight_from, sections, plan_fault, welded, laying_at};
+ghost use Rattle.theory.specs.Plans.{end_of, torn, straight_from, sections, plan_fault, welded};
 ghost use Rattle.sections.specs.Read.{section_of};
-ghost use Rattle.plans.specs.Opened.{Opens};
+ghost use Rattle.plans.specs.Opened.{Opens, Lays};
 ghost use Rattle.plans.specs.Begun.{Begun};
 
-use calls::{Checked, refusals};
+use calls::Refusal;
 use sections::Section;
-use shape::{Made, Strip};
+use shape::Strip;
 
 // Does each section start where the one ahead ends or later, have n letters or more, and end by the top?
 fn is_straight(n: u64, top: u64, plan: &[u8]) -> bool
@@ -42,20 +42,18 @@ fn is_straight(n: u64, top: u64, plan: &[u8]) -> bool
 }
 
 // The strip of an accepted plan.
-pub fn open(plan: &[u8]) -> Checked
+pub fn open(plan: &[u8]) -> Result<Strip, Refusal>
     ensures { Opens plan.now result }
 {
     if sections::is_torn(plan) {
-        return Checked::Refused(refusals::TORN_PLAN);
+        return Err(Refusal::TornPlan);
     }
     let n = plan[1] as u64;
-    let Made::Fine(strip) = Strip::new(plan[0] as u64, n) else {
-        return Checked::Refused(refusals::NO_SUCH_STRIP);
-    };
+    let strip = calls::check_strip(plan[0] as u64, n)?;
     if is_straight(n, strip.size, plan) {
-        return Checked::Strip(strip);
+        return Ok(strip);
     }
-    Checked::Refused(refusals::CROOKED_PLAN)
+    Err(Refusal::CrookedPlan)
 }
 
 // How many sections begin at a place or before it, by bisection: they are sorted.
@@ -84,29 +82,29 @@ fn is_welded(section: Section, next: Section) -> bool
     section.offset + section.long == next.offset && section.rail == next.rail
 }
 
-// The number of the section that the window at a place is laid in, plus 1; 0 if it is in none. No section is shorter than a window,
-// so one that crosses a welded joint ends in the next section.
-pub fn laying(plan: &[u8], place: u64) -> u64
+// The section that the window at a place is laid in, if any. No section is shorter than a window, so one that crosses a welded joint ends in the next
+// section.
+pub fn laying(plan: &[u8], place: u64) -> Option<u64>
     requires { (plan_fault plan.now ≡ 0) × (place < 2 ^ 60) }
-    ensures { result ≡ laying_at plan.now place }
+    ensures { Lays plan.now place result }
 {
     let looked = begun(plan, place);
     if looked == 0 {
-        return 0;
+        return None;
     }
     let section = sections::section_at(plan, looked - 1);
     let end = section.offset + section.long;
     if end <= place {
-        return 0;
+        return None;
     }
     if place + plan[1] as u64 <= end {
-        return looked;
+        return Some(looked - 1);
     }
     if looked == sections::count(plan) {
-        return 0;
+        return None;
     }
     if is_welded(section, sections::section_at(plan, looked)) {
-        return looked;
+        return Some(looked - 1);
     }
-    0
+    None
 }

@@ -12,7 +12,7 @@ use Rattle.plans.proofs.laying.Goals as goal
 
 pub returns-then-looked-eq0 : goal.returns-then-looked-eq0
 returns-then-looked-eq0 c =
-    sym (nowhere c.args.plan.now c.requires.0 c.args.place (subst (Begun c.args.place (sections c.args.plan.now)) c.if-looked-eq0.true c.begun-looked.ensures))
+    nowhere c.args.plan.now c.requires.0 c.args.place (subst (Begun c.args.place (sections c.args.plan.now)) c.if-looked-eq0.true c.begun-looked.ensures)
 
 pub section_at-section-requires : goal.section_at-section-requires
 section_at-section-requires c =
@@ -29,7 +29,7 @@ overflow_add-end c = omega (arith, end_fits c.args.plan.now c.requires.0 c.args.
 
 pub returns-then-end-place : goal.returns-then-end-place
 returns-then-end-place c =
-    sym (passed c.args.plan.now c.requires.0 c.args.place (seen (goal.at.returns-then-end-place c).After-section_at-section) c.if-end-place.true)
+    passed c.args.plan.now c.requires.0 c.args.place (seen (goal.at.returns-then-end-place c).After-section_at-section) c.if-end-place.true
 
 pub bounds-plan-1 : goal.bounds-plan-1
 bounds-plan-1 c =
@@ -37,14 +37,14 @@ bounds-plan-1 c =
 
 pub returns-then-place-plan : goal.returns-then-place-plan
 returns-then-place-plan c =
-    sym (whole c.args.plan.now c.requires.0 c.args.place (seen (goal.at.returns-then-place-plan c).After-section_at-section) c.if-place-plan.true)
+    whole c.args.plan.now c.requires.0 c.args.place (seen (goal.at.returns-then-place-plan c).After-section_at-section) c.if-place-plan.true ∙ omega (arith, c.if-looked-eq0.false)
 
 pub count-requires : goal.count-requires
 count-requires c = (plan_good c.args.plan.now c.requires.0).0
 
 pub returns-then-looked-count : goal.returns-then-looked-count
 returns-then-looked-count c =
-    sym (last c.args.plan.now c.requires.0 c.args.place (seen (goal.at.returns-then-looked-count c).After-section_at-section) c.if-place-plan.false (omega arith))
+    last c.args.plan.now c.requires.0 c.args.place (seen (goal.at.returns-then-looked-count c).After-section_at-section) c.if-place-plan.false (omega arith)
 
 pub section_at-requires : goal.section_at-requires
 section_at-requires c =
@@ -56,8 +56,8 @@ is_welded-requires c =
 
 pub returns-then-is_welded : goal.returns-then-is_welded
 returns-then-is_welded c =
-    sym (across c.args.plan.now c.requires.0 c.args.place (seen (goal.at.returns-then-is_welded c).After-section_at-section) c.section_at.ensures (omega arith) (λ z. omega (arith, z)) (sym c.is_welded.ensures ∙ c.if-is_welded.true))
+    across c.args.plan.now c.requires.0 c.args.place (seen (goal.at.returns-then-is_welded c).After-section_at-section) c.section_at.ensures (omega arith) (λ z. omega (arith, z)) (sym c.is_welded.ensures ∙ c.if-is_welded.true) ∙ omega (arith, c.if-looked-eq0.false)
 
 pub returns : goal.returns
 returns c =
-    sym (parted c.args.plan.now c.requires.0 c.args.place (seen (goal.at.returns c).After-section_at-section) c.section_at.ensures c.if-place-plan.false (sym c.is_welded.ensures ∙ c.if-is_welded.false))
+    parted c.args.plan.now c.requires.0 c.args.place (seen (goal.at.returns c).After-section_at-section) c.section_at.ensures c.if-place-plan.false (sym c.is_welded.ensures ∙ c.if-is_welded.false)
