@@ -10,11 +10,7 @@ pub fn copy(src: &[u8], out: &mut [u8])
     requires { length src.now ≤ length out.old }
     ensures { out.new ≡ over src.now out.old }
 {
-    let mut i = 0;
-    while i < src.len() {
-        out[i] = src[i];
-        i += 1;
-    }
+    out[..src.len()].copy_from_slice(src);
 }
 
 // The rotation of the source by `turn`.
@@ -32,9 +28,5 @@ pub fn fill(out: &mut [u8], from: usize, b: u8)
     requires { from ≤ length out.old }
     ensures { out.new ≡ filled b from out.old }
 {
-    let mut i = out.len();
-    while from < i {
-        i -= 1;
-        out[i] = b;
-    }
+    out[from..].fill(b);
 }
