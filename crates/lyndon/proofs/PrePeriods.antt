@@ -105,9 +105,6 @@ lyndon_by_period w h = same_test (eqb (pre_period w) (length w)) (is_lyndon w) i
     out : is_lyndon w ≡ true → eqb (pre_period w) (length w) ≡ true
     out t = eq-eqb (pre_period w) (length w) (pre_period_of (lyndon_in w t) (extends_self w) (omega arith))
 
-pub lyndon_empty : (w : List ℕ) → length w ≡ 0 → is_lyndon w ≡ false
-lyndon_empty w h = ap is_lyndon (nil_of w h)
-
 -- a necklace if that divides its length
 pub necklace_period : (w : List ℕ) → 0 < length w → Necklace w → (0 < pre_period w) × (length w % pre_period w ≡ 0)
 necklace_period w h n = elim (necklace_power w h n) [ power x e l f ↦ at x e l f ]
@@ -140,6 +137,8 @@ necklace_none w h z = elim (test (is_necklace w)) [
 
 pub necklace_empty : (w : List ℕ) → length w ≡ 0 → is_necklace w ≡ true
 necklace_empty w h = ap is_necklace (nil_of w h)
+
+pub ruleset necklace_laws = (necklace_empty, necklace_none, necklace_by_period)
 
 -- letter by letter: the first i letters extend a Lyndon word of length p
 pub data Periodic (w : List ℕ) (p i : ℕ) : Type 0 where

@@ -1,24 +1,20 @@
--- What a loop over the letters of a word decides at each letter: for `marks_ok`, `same` and `below`.
-use mathlib.Core.Path.{◌≡◌, ap₂}
-use mathlib.Core.Bool.{true, false}
-use mathlib.Core.List.{List}
+-- `marks_ok` as one test of every letter; and what a loop over the letters of two words decides at each letter, for `same` and `below`.
+use mathlib.Core.Path.{◌≡◌, refl, ap, ap₂}
+use mathlib.Core.Bool.{true, false, ◌&&◌}
+use mathlib.Core.List.{List, [], ◌∷◌}
 use Prim.Native.Nat.{ℕ, ◌+◌, ◌≤◌, ◌<◌}
 use native.Mathlib.Omega.{arith}
 use native.Mathlib.Numerals.{add-one}
+use lib.Dec.{ltb}
 use lib.ListN.{length, get_or, drop, drop_of_length-le}
 use lib.Seq.{drop-cons}
 use borrow.Author.Tests.{lt-ltb, le-ltb, eq-eqb, ne_eqb}
+use Rattle.std.specs.List.{list_all}
 use Rattle.theory.specs.Words.{same, below, marks_ok}
 
--- every letter below k: from the letter at i on
-pub marks_large : (k : ℕ) (w : List ℕ) (i : ℕ) → i < length w → k ≤ get_or w i 0 → marks_ok k (drop i w) ≡ false
-marks_large k w i h l = rw (drop-cons w i 0 h, le-ltb (get_or w i 0) k l)
-
-pub marks_on : (k : ℕ) (w : List ℕ) (i : ℕ) → i < length w → get_or w i 0 < k → marks_ok k (drop i w) ≡ marks_ok k (drop (i + 1) w)
-marks_on k w i h l = rw (drop-cons w i 0 h, lt-ltb (get_or w i 0) k l, add-one i)
-
-pub marks-end : (k : ℕ) (w : List ℕ) (i : ℕ) → length w ≤ i → marks_ok k (drop i w) ≡ true
-marks-end k w i h = rw (drop_of_length-le w h)
+pub marks_all : (k : ℕ) (w : List ℕ) → marks_ok k w ≡ list_all (λ a. ltb a k) w
+marks_all k [] = refl
+marks_all k (a ∷ w) = ap (λ r. ltb a k && r) (marks_all k w)
 
 -- two words compared: from the letters at j on
 module _ (u v : List ℕ) (j : ℕ) (inside-left : j < length u) (inside-right : j < length v) where
