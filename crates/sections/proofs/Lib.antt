@@ -1,3 +1,2 @@
--- The tests for a torn plan, and the entries of one that is not torn.
-pub mod Torn
+-- The entries of a plan that is not torn.
 pub mod Entries

@@ -45,6 +45,7 @@ pub fn count(plan: &[u8]) -> u64
 }
 
 // Bytes of an entry: the total tells which record it is.
+#[tactic(auto, using(theory::proofs::Records::size_of_lem))]
 fn entry_size(plan: &[u8]) -> usize
     requires { torn plan.now ≡ false }
     ensures { result ≡ entry_size plan.now }
@@ -64,6 +65,7 @@ pub struct Section {
 }
 
 // Section i of a plan.
+#[tactic(auto, using(crate::proofs::Entries::entry_inside))]
 pub fn section_at(plan: &[u8], i: u64) -> Section
     requires { (torn plan.now ≡ false) × (i < section_count plan.now) }
     ensures { section_of result ≡ nth_s (sections plan.now) i }
