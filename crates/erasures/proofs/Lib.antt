@@ -1,2 +1,2 @@
--- What the loops over a window with erasures find at each letter.
+-- What is found in a window with erasures.
 pub mod Scans

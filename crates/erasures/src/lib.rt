@@ -17,32 +17,14 @@ const MOST: usize = 2;
 fn count_unread(w: &[u8]) -> usize
     ensures { result ≡ length (keep unread w.now) }
 {
-    let mut count = 0;
-    let mut i = 0;
-    while i < w.len() {
-        if w[i] == UNREAD {
-            count += 1;
-        }
-        i += 1;
-    }
-    count
+    w.iter().filter(|a| **a == UNREAD).count()
 }
 
 // Is every mark that was read below k?
 fn read_below(k: u64, w: &[u8]) -> bool
     ensures { result ≡ marks_ok k (keep read w.now) }
 {
-    let mut i = 0;
-    while i < w.len() {
-        let a = w[i];
-        if a != UNREAD {
-            if k <= a as u64 {
-                return false;
-            }
-        }
-        i += 1;
-    }
-    true
+    w.iter().all(|a| *a == UNREAD || u64::from(*a) < k)
 }
 
 // The number of its refusal, or 0.
@@ -78,15 +60,12 @@ pub fn fill(k: u64, c: u64, w: &[u8], out: &mut [u8])
     requires { (1 ≤ k) × (k ≤ 36) × (length out.old ≡ length w.now) }
     ensures { out.new ≡ filling k c w.now }
 {
+    out.copy_from_slice(w);
     let mut rest = c;
-    let mut i = 0;
-    while i < w.len() {
-        let mut letter = w[i];
-        if letter == UNREAD {
-            letter = (rest % k) as u8;
-            rest = rest / k;
+    for letter in out.iter_mut() {
+        if *letter == UNREAD {
+            *letter = (rest % k) as u8;
+            rest /= k;
         }
-        out[i] = letter;
-        i += 1;
     }
 }

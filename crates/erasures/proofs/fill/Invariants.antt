@@ -1,13 +1,9 @@
--- fill: the first i letters of the filling stand in the buffer, and `rest` is left for the erasures from there on.
-use Prim.Native.Nat.{◌-◌, ◌≤◌}
+-- fill: up to the index the filling stands in the buffer, behind it the window, and `rest` is left for the erasures there.
 use mathlib.Core.Path.{◌≡◌}
 use mathlib.Core.List.{◌++◌}
-use lib.ListN.{length, take, drop}
+use lib.ListN.{take, drop}
 use Rattle.theory.specs.Erasures.{filling}
 use Rattle.erasures.proofs.fill.Given as goal
 
-abbrev pub invariant-loop-i : goal.invariant-loop-i
-invariant-loop-i l = (l.i ≤ length l.w) × (length l.out ≡ length l.w) × (filling l.k l.c l.w ≡ take l.i l.out ++ filling l.k l.rest (drop l.i l.w))
-
-abbrev pub decreases-loop-i : goal.decreases-loop-i
-decreases-loop-i l = length l.w - l.i
+abbrev pub invariant-loop-letter : goal.invariant-loop-letter
+invariant-loop-letter l = filling l.k l.c l.w ≡ take l.letter-index l.out ++ filling l.k l.rest (drop l.letter-index l.out)
