@@ -1,4 +1,3 @@
--- What the proofs of the functions lean on: the test of the sections, the tests of a plan, the section of a place.
-pub mod Straight
+-- What the proofs of the functions lean on: the section of a place, and what opening a plan says.
 pub mod Places
 pub mod Opening

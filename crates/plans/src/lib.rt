@@ -12,14 +12,13 @@ use sections::Section;
 use shape::Strip;
 
 // Does each section start where the one ahead ends or later, have n letters or more, and end by the top?
+#[tactic(auto, using(theory::proofs::Records::sections_count, theory::proofs::Records::from_section, std::proofs::lemmas::List::drop_all))]
 fn is_straight(n: u64, top: u64, plan: &[u8]) -> bool
     requires { torn plan.now ≡ false }
     ensures { result ≡ straight_from n top 0 (sections plan.now) }
 {
-    let all = sections::count(plan);
     let mut end = 0;
-    let mut i = 0;
-    while i < all {
+    for i in 0..sections::count(plan) {
         let section = sections::section_at(plan, i);
         let offset = section.offset;
         let long = section.long;
@@ -36,7 +35,6 @@ fn is_straight(n: u64, top: u64, plan: &[u8]) -> bool
             return false;
         }
         end = offset + long;
-        i += 1;
     }
     true
 }
