@@ -5,8 +5,9 @@
 ghost use Rattle.std.specs.Prelude.{◌≡◌, ◌^◌, ◌≤◌, length};
 ghost use Rattle.theory.specs.Words.{keep, marks_ok};
 ghost use Rattle.theory.specs.Erasures.{unread, read, filling, smudge_fault};
+ghost use Rattle.calls.specs.Codes.{number_of};
 
-use calls::refusals;
+use calls::Refusal;
 
 // An erasure; no mark has this byte, since there are at most 36 shades. And how many a window may have.
 const UNREAD: u8 = 255;
@@ -27,20 +28,20 @@ fn read_below(k: u64, w: &[u8]) -> bool
     w.iter().all(|a| *a == UNREAD || u64::from(*a) < k)
 }
 
-// The number of its refusal, or 0.
-pub fn fault(k: u64, n: u64, w: &[u8]) -> u8
-    ensures { result ≡ smudge_fault k n w.now }
+// Has it n marks, not too many erasures, and only marks below k?
+pub fn check_window(k: u64, n: u64, w: &[u8]) -> Result<(), Refusal>
+    ensures { number_of result ≡ smudge_fault k n w.now }
 {
     if w.len() as u64 != n {
-        return refusals::WRONG_WINDOW;
+        return Err(Refusal::WrongWindow);
     }
     if MOST < count_unread(w) {
-        return refusals::TOO_SMUDGED;
+        return Err(Refusal::TooSmudged);
     }
     if read_below(k, w) {
-        return 0;
+        return Ok(());
     }
-    refusals::BAD_MARK
+    Err(Refusal::BadMark)
 }
 
 // How many fillings: a letter below k for each erasure.

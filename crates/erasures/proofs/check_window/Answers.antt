@@ -2,7 +2,7 @@
 use mathlib.Core.Path.{sym, ◌∙◌}
 use native.Mathlib.Omega.{arith}
 use Rattle.erasures.proofs.Scans.{wrong_length, too_smudged, letters_told}
-use Rattle.erasures.proofs.fault.Goals as goal
+use Rattle.erasures.proofs.check_window.Goals as goal
 
 pub returns-then-w-n : goal.returns-then-w-n
 returns-then-w-n c = let a = c.args in wrong_length a.k a.n a.w.now c.if-w-n.true
