@@ -11,7 +11,7 @@ use lib.Seq.{take-append_seam}
 use Rattle.shape.specs.declared.Strip as DS
 use Rattle.shape.specs.declared.Lengths.{Lengths}
 use Rattle.shape.specs.declared.Lengths.TheVariants.{Divisors, Whole}
-use Rattle.shape.specs.Shapes.{Shaped, WordOn}
+use Rattle.shape.specs.Shapes.{WordOn}
 use Rattle.shape.specs.Rings.{ok_of}
 use Rattle.shape.proofs.Rings.{allowed_of}
 use Rattle.shape.proofs.Limits.{limits}
@@ -42,25 +42,24 @@ extension_power {n} {u} m =
     ∙ take-append_seam (repeated (suc m.times) u) (repeated (n - suc m.times) u) ∙ sym (power_is m)
 
 -- a word of a ring ends where so many letters are
-ends_in : (lengths : Lengths) {s : DS.Strip} (u : List ℕ) → Shaped s → In u (ring_words (ok_of lengths s.n) s.k s.n) → Fits s.n u
+ends_in : (lengths : Lengths) (s : DS.Strip) (u : List ℕ) → In u (ring_words (ok_of lengths s.n) s.k s.n) → Fits s.n u
     → before_w u (ring_words (ok_of lengths s.n) s.k s.n) + length u ≡ end_in lengths s (power_to s.n u)
-ends_in Divisors {s} u h i fit = strip_ends s.k s.n u (limits h).some i
-ends_in Whole {s} u h i fit =
-    short_ends s.k s.n u (limits h).some i ∙ ap (λ x. s.n * rank s.k x) (sym (power_self fit ((short_words_lem s.k s.n u).0 i).0))
+ends_in Divisors s u i fit = strip_ends s.k s.n u (limits s).some i
+ends_in Whole s u i fit =
+    short_ends s.k s.n u (limits s).some i ∙ ap (λ x. s.n * rank s.k x) (sym (power_self fit ((short_words_lem s.k s.n u).0 i).0))
 
 module _ {lengths : Lengths} {s : DS.Strip} {w : List ℕ} {long : ℕ} (h : HeldOn lengths s w long) {v : List ℕ} (e : v ≡ extension (length w) (take long w)) where
   abbrev u : List ℕ
   u = take long w
 
   fit : Fits s.n u
-  fit = ring_fits (ok_of lengths s.n) s.k s.n (limits h.shaped).some (allowed_of lengths s.n (limits h.shaped).some) (held_in h)
+  fit = ring_fits (ok_of lengths s.n) s.k s.n (limits s).some (allowed_of lengths s.n (limits s).some) (held_in h)
 
   is_power : v ≡ power_to s.n u
   is_power = e ∙ ap (λ n. extension n u) h.size ∙ extension_power fit
 
   word : WordOn s v
   word = record {
-    shaped = h.shaped;
     long = ap length is_power ∙ power_length fit;
     marks = subst (λ x. marks_ok s.k x ≡ true) (sym (is_power ∙ power_is fit)) (marks-repeated s.k (suc fit.times) u h.marks);
   }
@@ -72,4 +71,4 @@ module _ {lengths : Lengths} {s : DS.Strip} {w : List ℕ} {long : ℕ} (h : Hel
   pub ends_at : {end : ℕ} → end ≡ end_in lengths s v → before_w u (ring_words (ok_of lengths s.n) s.k s.n) + long ≡ end
   ends_at {end} g =
       ap (λ l. before_w u (ring_words (ok_of lengths s.n) s.k s.n) + l) (sym (held-length h))
-      ∙ ends_in lengths u h.shaped (held_in h) fit ∙ ap (end_in lengths s) (sym is_power) ∙ sym g
+      ∙ ends_in lengths s u (held_in h) fit ∙ ap (end_in lengths s) (sym is_power) ∙ sym g

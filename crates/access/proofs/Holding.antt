@@ -31,7 +31,7 @@ use Rattle.theory.proofs.Divisors.{divides_le}
 use Rattle.shape.specs.declared.Strip as DS
 use Rattle.shape.specs.declared.Lengths.{Lengths}
 use Rattle.shape.specs.declared.Lengths.TheVariants.{Divisors, Whole}
-use Rattle.shape.specs.Shapes.{Shaped, WordOn}
+use Rattle.shape.specs.Shapes.{WordOn}
 use Rattle.shape.proofs.Limits.{limits}
 use Rattle.shape.proofs.Rings.{size-most}
 use Rattle.automaton.specs.Tables.{Counted}
@@ -97,19 +97,19 @@ holding k n p h s l = record {
         omega (arith, ltb-true c.place (length c.word) last, rooted.long, ap length by.1)
 
 -- what the code asks of it, and answers
-module _ {s : DS.Strip} (p : ℕ) {v : List ℕ} (h : Shaped s) (l : p < s.size) (e : v ≡ found s.k s.n p) where
+module _ (s : DS.Strip) (p : ℕ) {v : List ℕ} (l : p < s.size) (e : v ≡ found s.k s.n p) where
   hold : Holding s.k s.n p v
-  hold = let r = limits h in subst (Holding s.k s.n p) (sym e) (holding s.k s.n p r.two r.some (subst (λ x. p < x) h.size l))
+  hold = let r = limits s in subst (Holding s.k s.n p) (sym e) (holding s.k s.n p r.two r.some (subst (λ x. p < x) s.whole l))
 
   pub holder_asks : Counted s.k v × Prenecklace v × (s.size ≡ s.k ^ length v)
   holder_asks =
-      let on : WordOn s v = record { shaped = h; long = hold.long; marks = hold.marks } in
-      (counted on, smallest_pre v hold.necklace, h.size ∙ ap (λ m. s.k ^ m) (sym hold.long))
+      let on : WordOn s v = record { long = hold.long; marks = hold.marks } in
+      (counted on, smallest_pre v hold.necklace, s.whole ∙ ap (λ m. s.k ^ m) (sym hold.long))
 
   pub holder_fits : (root v ≤ 60) × (cs s.k v ≤ p + root v) × (p < 2 ^ 60)
   holder_fits =
-      let r = limits h in
-      (omega (arith, divides_le (root v) s.n r.some hold.rooted.divisor, r.short), hold.enough, omega (arith, l, h.size, r.range))
+      let r = limits s in
+      (omega (arith, divides_le (root v) s.n r.some hold.rooted.divisor, r.short), hold.enough, omega (arith, l, s.whole, r.range))
 
   pub holder_is : {r : DP.Spot} → r.long ≡ root v → r.at ≡ p + root v - cs s.k v → HoldsAt Divisors s p v r
   holder_is {r} a b = record {
@@ -119,24 +119,24 @@ module _ {s : DS.Strip} (p : ℕ) {v : List ℕ} (h : Shaped s) (l : p < s.size)
   }
     where
       held : HeldOn Divisors s v (root v)
-      held = record { shaped = h; size = hold.long; allowed = hold.rooted.divisor; marks = marks-take s.k (root v) v hold.marks; lyndon = hold.rooted.lyndon }
+      held = record { size = hold.long; allowed = hold.rooted.divisor; marks = marks-take s.k (root v) v hold.marks; lyndon = hold.rooted.lyndon }
 
 -- the short ring
-module _ {s : DS.Strip} (p : ℕ) (h : Shaped s) (l : p < short_size s.k s.n) where
+module _ (s : DS.Strip) (p : ℕ) (l : p < short_size s.k s.n) where
   -- the index is that of a word
   pub index_within : (1 ≤ p / s.n + 1) × (p / s.n + 1 ≤ how_many s.k s.n)
-  index_within = let r = limits h in let few = index_few s.k s.n r.two r.some p l in (omega arith, omega (arith, few))
+  index_within = let r = limits s in let few = index_few s.k s.n r.two r.some p l in (omega arith, omega (arith, few))
 
   pub index_small : (p < 2 ^ 60) × (p % s.n < s.n) × (s.n ≤ 60)
   index_small =
-      let r = limits h in
+      let r = limits s in
       (omega (arith, size-most Whole s.k s.n r.two r.some, r.range), mod-lt p r.some, r.short)
 
   pub short_is : {v : List ℕ} {r : DP.Spot} → v ≡ word_of s.k s.n (p / s.n + 1) → r.long ≡ s.n → r.at ≡ p % s.n → HoldsAt Whole s p v r
   short_is {v} {r} e a b = record {
-    held = subst (HeldOn Whole s v) (sym a) (record { shaped = h; size = long; allowed = eq-eqb s.n s.n refl; marks = ap (marks_ok s.k) word ∙ fits.1; lyndon = ap is_lyndon word ∙ fits.2 });
+    held = subst (HeldOn Whole s v) (sym a) (record { size = long; allowed = eq-eqb s.n s.n refl; marks = ap (marks_ok s.k) word ∙ fits.1; lyndon = ap is_lyndon word ∙ fits.2 });
     inside = omega (arith, index_small);
-    is = ap₂ (λ x y. cursor s.k s.n (take x v) y) a b ∙ ap (λ u. cursor s.k s.n u (p % s.n)) (word ∙ ap (word_of s.k s.n) (add-one (p / s.n))) ∙ sym ((short_ring_lem s.k s.n (limits h).two (limits h).some).at_place p l);
+    is = ap₂ (λ x y. cursor s.k s.n (take x v) y) a b ∙ ap (λ u. cursor s.k s.n u (p % s.n)) (word ∙ ap (word_of s.k s.n) (add-one (p / s.n))) ∙ sym ((short_ring_lem s.k s.n (limits s).two (limits s).some).at_place p l);
   }
     where
       fits : (length (word_of s.k s.n (p / s.n + 1)) ≡ s.n) × (marks_ok s.k (word_of s.k s.n (p / s.n + 1)) ≡ true) × (is_lyndon (word_of s.k s.n (p / s.n + 1)) ≡ true)

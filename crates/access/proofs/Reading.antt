@@ -6,7 +6,6 @@ use native.Mathlib.Omega.{arith}
 use lib.ListN.{length, get_or, take, drop, replicate}
 use lib.Seq.{drop-cons, get_or-take, length-take-le}
 use Rattle.shape.specs.declared.Strip as DS
-use Rattle.shape.specs.Shapes.{Shaped}
 use Rattle.shape.proofs.Limits.{limits}
 use Rattle.theory.specs.Rings.{cursor, position_in}
 use Rattle.shape.specs.declared.Lengths.{Lengths}
@@ -21,21 +20,21 @@ use Rattle.access.specs.Holders.{HoldsAt}
 abbrev pub room : List ℕ
 room = replicate 60 0
 
-pub in_room : {s : DS.Strip} → Shaped s → length (take s.n room) ≡ s.n
-in_room {s} h = length-take-le s.n room (omega (arith, (limits h).short))
+pub in_room : (s : DS.Strip) → length (take s.n room) ≡ s.n
+in_room s = length-take-le s.n room (omega (arith, (limits s).short))
 
-module _ {lengths : Lengths} {s : DS.Strip} (p : ℕ) {v : List ℕ} {r : DP.Spot} (h : Shaped s) (l : p < size_in lengths s) (a : HoldsAt lengths s p v r) where
+module _ {lengths : Lengths} {s : DS.Strip} (p : ℕ) {v : List ℕ} {r : DP.Spot} (l : p < size_in lengths s) (a : HoldsAt lengths s p v r) where
   pub held_place : position_in (ok_of lengths) (cursor s.k s.n (take r.long v) r.at) ≡ p
   held_place =
-      let t = limits h in
-      ap (position_in (ok_of lengths)) a.is ∙ ((cursors_of lengths).there s.k s.n p t.two t.some (subst (λ x. p < x) (size_in_lem lengths h) l)).1
+      let t = limits s in
+      ap (position_in (ok_of lengths)) a.is ∙ ((cursors_of lengths).there s.k s.n p t.two t.some (subst (λ x. p < x) (size_in_lem lengths s) l)).1
 
   pub held_inside : r.at < length v
   held_inside = omega (arith, a.inside, held_fits a.held)
 
   pub held_letter : get_or v r.at 0 ≡ letter_of lengths s.k s.n p
   held_letter =
-      let t = limits h in
+      let t = limits s in
       let u : List ℕ = take r.long v in
       let long : length u ≡ r.long = held-length a.held in
       let read : letters_of lengths s.k s.n (position_in (ok_of lengths) (cursor s.k s.n u r.at)) 1 ≡ take 1 (drop r.at u) = word_read lengths s.k s.n t.two t.some u r.at 1 (held_in a.held) (omega (arith, long, a.inside)) in

@@ -9,7 +9,7 @@ ghost use Rattle.theory.specs.Shorts.{short_size};
 ghost use Rattle.theory.specs.Prenecklaces.{Prenecklace};
 ghost use Rattle.rings.specs.Moves.{HeldOn};
 ghost use Rattle.shape.specs.declared.Lengths.TheVariants.{Divisors, Whole};
-ghost use Rattle.shape.specs.Shapes.{Shaped, WordOn};
+ghost use Rattle.shape.specs.Shapes.{WordOn};
 ghost use Rattle.shape.specs.Rings.{ok_of, size_in, letter_of, letters_of};
 ghost use Rattle.access.specs.Holders.{HoldsAt, PutAt, end_in};
 
@@ -25,7 +25,7 @@ pub struct Spot {
 
 // On the strip: the necklace found by the position, up to whose end CS has so many words.
 fn strip_holder(s: Strip, p: u64, v: &mut [u8]) -> Spot
-    requires { Shaped s × (p < s.size) × (length v.old ≡ s.n) }
+    requires { (p < s.size) × (length v.old ≡ s.n) }
     ensures { HoldsAt Divisors s p v.new result }
 {
     search::find(s, Goal::Position(p), v);
@@ -41,7 +41,7 @@ fn strip_holder(s: Strip, p: u64, v: &mut [u8]) -> Spot
 
 // On the short ring: the Lyndon word of the index, since each has n letters.
 fn short_holder(s: Strip, p: u64, v: &mut [u8]) -> Spot
-    requires { Shaped s × (p < short_size s.k s.n) × (length v.old ≡ s.n) }
+    requires { (p < short_size s.k s.n) × (length v.old ≡ s.n) }
     ensures { HoldsAt Whole s p v.new result }
 {
     let n = s.n;
@@ -54,7 +54,7 @@ fn short_holder(s: Strip, p: u64, v: &mut [u8]) -> Spot
 
 // The word is put over the start of a buffer of n bytes; what stands behind it there is not promised.
 fn holder(lengths: Lengths, s: Strip, p: u64, v: &mut [u8]) -> Spot
-    requires { Shaped s × (p < size_in lengths s) × (length v.old ≡ s.n) }
+    requires { (p < size_in lengths s) × (length v.old ≡ s.n) }
     ensures { HoldsAt lengths s p v.new result }
 {
     match lengths {
@@ -65,7 +65,7 @@ fn holder(lengths: Lengths, s: Strip, p: u64, v: &mut [u8]) -> Spot
 
 // The word that holds a place of the ring, over the start of a buffer; `room` is scratch.
 pub fn hold(lengths: Lengths, s: Strip, p: u64, room: &mut [u8], out: &mut [u8]) -> Spot
-    requires { Shaped s × (p < size_in lengths s) × (length room.old ≡ s.n) × (60 ≤ length out.old) }
+    requires { (p < size_in lengths s) × (length room.old ≡ s.n) × (60 ≤ length out.old) }
     ensures { PutAt lengths s p out.old out.new result × Scratch room.old room.new }
 {
     let spot = holder(lengths, s, p, room);
@@ -76,7 +76,7 @@ pub fn hold(lengths: Lengths, s: Strip, p: u64, room: &mut [u8], out: &mut [u8])
 
 // The letter at a position.
 pub fn letter(lengths: Lengths, s: Strip, p: u64) -> u8
-    requires { Shaped s × (p < size_in lengths s) }
+    requires { (p < size_in lengths s) }
     ensures { result ≡ letter_of lengths s.k s.n p }
 {
     let mut room = [0u8; Strip::LONGEST];
@@ -88,7 +88,7 @@ pub fn letter(lengths: Lengths, s: Strip, p: u64) -> u8
 
 // The letters from a position on, over the whole buffer.
 pub fn letters(lengths: Lengths, s: Strip, p: u64, out: &mut [u8])
-    requires { Shaped s × (p < size_in lengths s) }
+    requires { (p < size_in lengths s) }
     ensures { out.new ≡ letters_of lengths s.k s.n p (length out.old) }
 {
     let mut room = [0u8; Strip::LONGEST];

@@ -55,7 +55,7 @@ module _ {s : DS.Strip} {w : List ℕ} {l m : ℕ} (on : WordOn s w) (lead : l �
 -- the word's length and its end
 module _ {s : DS.Strip} {w : List ℕ} {t : ℕ} {v : List ℕ} {long : ℕ} (on : WordOn s w) (at : Located s.k s.n w t v) (size : long ≡ root v) where
   pub letters_short : long + length w ≤ 120
-  letters_short = omega (arith, size, root_inside on at, on.long, (limits on.shaped).short)
+  letters_short = omega (arith, size, root_inside on at, on.long, (limits s).short)
 
   pub word_held : HeldOn Divisors s v long × (0 < long)
   word_held = subst (λ x. HeldOn Divisors s v x × (0 < x)) (sym size) (base_held on at)

@@ -57,7 +57,7 @@ pub record Located (k n : ℕ) (w : List ℕ) (turn : ℕ) (v : List ℕ) : Type
 
 module _ {s : DS.Strip} {w : List ℕ} (on : WordOn s w) where
   lim : Limits s.k s.n
-  lim = limits on.shaped
+  lim = limits s
 
   abbrev lead : ℕ
   lead = leading (s.k - 1) w
@@ -89,7 +89,7 @@ module _ {s : DS.Strip} {w : List ℕ} (on : WordOn s w) where
 
   pub wrap_inside : lead + leading 0 (drop lead w) ≡ s.n → lead ≤ s.size
   wrap_inside h = elim (split 1 lead) [
-    | upto l ↦ omega (arith, wrap_top l h, on.shaped.size)
+    | upto l ↦ omega (arith, wrap_top l h, s.whole)
     | over l ↦ omega arith
   ]
 
@@ -97,7 +97,7 @@ module _ {s : DS.Strip} {w : List ℕ} (on : WordOn s w) where
   wrap_place h = elim (split 1 lead) [ upto l ↦ top l | over l ↦ none (omega arith) ]
     where
       top : 1 ≤ lead → pick (eqb lead 0) 0 (s.size - lead) ≡ place_of s.k s.n w
-      top l = ap (λ t. pick t 0 (s.size - lead)) (ne_eqb lead 0 (λ e. omega arith)) ∙ omega (arith, wrap_top l h, on.shaped.size)
+      top l = ap (λ t. pick t 0 (s.size - lead)) (ne_eqb lead 0 (λ e. omega arith)) ∙ omega (arith, wrap_top l h, s.whole)
 
       none : lead ≡ 0 → pick (eqb lead 0) 0 (s.size - lead) ≡ place_of s.k s.n w
       none e =
@@ -205,13 +205,12 @@ module _ {s : DS.Strip} {w : List ℕ} (on : WordOn s w) where
         range = subst (λ x. s.k ^ x ≤ 2 ^ 60) (sym at.long) lim.range;
       },
       smallest_pre v at.necklace,
-      on.shaped.size ∙ ap (λ x. s.k ^ x) (sym at.long),
+      s.whole ∙ ap (λ x. s.k ^ x) (sym at.long),
     )
 
     pub base_held : HeldOn Divisors s v (root v) × (0 < root v)
     base_held = (
       record {
-        shaped = on.shaped;
         size = at.long;
         allowed = base_root.divisor;
         marks = marks-take s.k (root v) v at.marks;

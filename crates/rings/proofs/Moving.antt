@@ -33,10 +33,10 @@ padded-length n y h = omega (arith, length-append y (replicate (n - length y) 0)
 -- the word that is held
 module _ {lengths : Lengths} {s : DS.Strip} {w : List ℕ} {l : ℕ} (h : HeldOn lengths s w l) where
   held-divides : divides l s.n ≡ true
-  held-divides = (allowed_of lengths s.n (limits h.shaped).some).divisor l h.allowed
+  held-divides = (allowed_of lengths s.n (limits s).some).divisor l h.allowed
 
   pub held_fits : l ≤ length w
-  held_fits = omega (arith, h.size, divides_le l s.n (limits h.shaped).some held-divides)
+  held_fits = omega (arith, h.size, divides_le l s.n (limits s).some held-divides)
 
   pub held-length : length (take l w) ≡ l
   held-length = length-take-le l w held_fits
@@ -45,10 +45,10 @@ module _ {lengths : Lengths} {s : DS.Strip} {w : List ℕ} {l : ℕ} (h : HeldOn
   held_in = (ring_words_lem (ok_of lengths s.n) s.k s.n (take l w)).1 (omega (arith, held-length, held_fits, h.size), h.marks, h.lyndon, ap (ok_of lengths s.n) held-length ∙ h.allowed)
 
   pub forth_on : Laws (forth (ok_of lengths s.n) s.k s.n) (ok_of lengths s.n) s.k s.n
-  forth_on = let r = limits h.shaped in forth_of lengths s.k s.n r.two r.some
+  forth_on = let r = limits s in forth_of lengths s.k s.n r.two r.some
 
   pub back_on_lem : Laws (back (ok_of lengths s.n) s.k s.n) (ok_of lengths s.n) s.k s.n
-  back_on_lem = let r = limits h.shaped in back_of_lem lengths s.k s.n r.two r.some
+  back_on_lem = let r = limits s in back_of_lem lengths s.k s.n r.two r.some
 
 -- the buffer and the count on the way from u
 pub record Going (d : Direction) (ok : ℕ → Bool) (k n : ℕ) (u w : List ℕ) (l passed : ℕ) : Type 0 where

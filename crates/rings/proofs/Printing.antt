@@ -87,7 +87,7 @@ pub record Printing (lengths : Lengths) (s : DS.Strip) (start : ℕ) (out₀ w o
 pub print_starts : {lengths : Lengths} {s : DS.Strip} {w : List ℕ} {long : ℕ} (at : ℕ) (out : List ℕ) → HeldOn lengths s w long → at < long
     → Printing lengths s (position_in (ok_of lengths) (cursor s.k s.n (take long w) at)) out w out long at 0
 print_starts {lengths} {s} {w} {long} at out h b =
-    let r = limits h.shaped in
+    let r = limits s in
     let start = position_in (ok_of lengths) (cursor s.k s.n (take long w) at) in
     record {
       held = h;
@@ -118,7 +118,7 @@ module _ {lengths : Lengths} {s : DS.Strip} {w : List ℕ} {l : ℕ} (h : HeldOn
   moved_word = ap (take r.long) m.word ∙ take_at (after lengths s.k s.n (take l w)) _ r.long (sym m.size)
 
   moved_in : In (after lengths s.k s.n (take l w)) (ring_words (ok_of lengths s.n) s.k s.n)
-  moved_in = (forth_of lengths s.k s.n (limits h.shaped).two (limits h.shaped).some).lead_in (take l w) (held_in h)
+  moved_in = (forth_of lengths s.k s.n (limits s).two (limits s).some).lead_in (take l w) (held_in h)
 
   pub moved_some : 0 < r.long
   moved_some = omega (arith, m.size, listed_some lengths s.k s.n moved_in)
@@ -128,7 +128,6 @@ module _ {lengths : Lengths} {s : DS.Strip} {w : List ℕ} {l : ℕ} (h : HeldOn
       let v = after lengths s.k s.n (take l w) in
       let (short, letters, lyndon, allow) = (ring_words_lem (ok_of lengths s.n) s.k s.n v).0 moved_in in
       record {
-        shaped = h.shaped;
         size = ap length m.word ∙ padded-length s.n v short;
         allowed = ap (ok_of lengths s.n) m.size ∙ allow;
         marks = ap (marks_ok s.k) moved_word ∙ letters;
@@ -166,7 +165,7 @@ module _ {lengths : Lengths} {s : DS.Strip} {start : ℕ} {out₀ w out : List �
   more_letters : letters_of lengths s.k s.n start (filled + r)
       ≡ letters_of lengths s.k s.n start filled ++ take (length (take (length out - filled) (drop filled out))) (take (l - from) (drop from w))
   more_letters =
-      let g = limits p.held.shaped in
+      let g = limits s in
       let k = s.k in
       let n = s.n in
       let u = take l w in
@@ -197,7 +196,7 @@ module _ {lengths : Lengths} {s : DS.Strip} {start : ℕ} {out₀ w out : List �
     where
       next_place : filled + r < length out₀ → modulo (start + (filled + r)) (size_of lengths s.k s.n) ≡ position_in (ok_of lengths) (cursor s.k s.n (take m.long after-w) 0)
       next_place h =
-          let g = limits p.held.shaped in
+          let g = limits s in
           let k = s.k in
           let n = s.n in
           let u = take l w in

@@ -3,7 +3,6 @@ use Rattle.std.specs.Prelude.{◌≡◌, true, List, [], ◌∷◌, ◌++◌, �
 use Rattle.shape.specs.declared.Strip as DS
 use Rattle.shape.specs.declared.Lengths.{Lengths}
 use Rattle.shape.specs.declared.Lengths.TheVariants.{Divisors, Whole}
-use Rattle.shape.specs.Shapes.{Shaped}
 use Rattle.shape.specs.Rings.{ok_of}
 use Rattle.steps.specs.Steps.{padded}
 use Rattle.buffers.specs.Buffers.{over}
@@ -13,7 +12,6 @@ use Rattle.rings.specs.declared.Moved as DM
 
 -- the first `long` bytes of the buffer are a word of the ring
 pub record HeldOn (lengths : Lengths) (s : DS.Strip) (w : List ℕ) (long : ℕ) : Type 0 where
-  pub shaped : Shaped s
   pub size : length w ≡ s.n
   pub allowed : ok_of lengths s.n long ≡ true
   pub marks : marks_ok s.k (take long w) ≡ true

@@ -19,7 +19,7 @@ use Rattle.theory.proofs.Digits.{rank_reaches}
 use Rattle.theory.proofs.Positions.{cs_reached, by_cs, word_fits}
 use Rattle.search.specs.declared.Goal.{Goal}
 use Rattle.search.specs.declared.Goal.TheVariants.{Index, Position}
-use Rattle.shape.specs.Shapes.{Shaped, WordOn}
+use Rattle.shape.specs.Shapes.{WordOn}
 use Rattle.search.specs.Goals.{Within, goal_word}
 use Rattle.shape.proofs.Limits.{limits}
 
@@ -29,13 +29,13 @@ pub record Target (k n : ℕ) (w : List ℕ) : Type 0 where
   pub marks : marks_ok k w ≡ true
   pub pre : Prenecklace w
 
-pub target : (s : DS.Strip) (g : Goal) → Shaped s → Within s g → Target s.k s.n (goal_word s.k s.n g)
-target s (Index i) h (a, b) =
+pub target : (s : DS.Strip) (g : Goal) → Within s g → Target s.k s.n (goal_word s.k s.n g)
+target s (Index i) (a, b) =
     let r = undone.index_word s.k s.n i a b in
     record { long = r.0; marks = r.1; pre = lyndon_pre (lyndon_in _ r.2) }
-target s (Position p) h a =
-    let l = limits h in
-    let q : p < s.k ^ s.n = subst (λ x. p < x) h.size a in
+target s (Position p) a =
+    let l = limits s in
+    let q : p < s.k ^ s.n = subst (λ x. p < x) s.whole a in
     let r = word_fits s.k s.n p l.two l.some q in
     record { long = r.0; marks = r.1; pre = smallest_pre _ (by_cs s.k s.n p l.two l.some q).0 }
 
@@ -47,8 +47,8 @@ index_reached s i {w} h (a, b) =
 
 position_reached : (s : DS.Strip) (p : ℕ) {w : List ℕ} → WordOn s w → Within s (Position p) → ltb p (cs s.k w) ≡ up_to (goal_word s.k s.n (Position p)) w
 position_reached s p {w} h a =
-    let l = limits h.shaped in
-    let r = cs_reached s.k s.n p l.two l.some (subst (λ x. p < x) h.shaped.size a) h.long h.marks in
+    let l = limits s in
+    let r = cs_reached s.k s.n p l.two l.some (subst (λ x. p < x) s.whole a) h.long h.marks in
     same_test _ _ (λ t. le_up_to (r.0 (ltb-true p _ t))) (λ t. lt-ltb p _ (r.1 (up_to_le _ w t)))
 
 -- so does a count of the word that is compared with the number searched for

@@ -10,7 +10,7 @@ use lib.ListN.{length, get_or, take, drop, replicate, length-set, take-append-dr
 use lib.Seq.{take-length, take-suc, take-suc-set, drop-set-lt, drop-cons, get_or-take}
 use borrow.Author.Tests.{eq-eqb, ne_eqb, lt-ltb, le-ltb}
 use Rattle.shape.specs.declared.Strip as DS
-use Rattle.shape.specs.Shapes.{Shaped, WordOn}
+use Rattle.shape.specs.Shapes.{WordOn}
 use Rattle.shape.proofs.Limits.{Limits, limits}
 use Rattle.theory.specs.Words.{marks_ok}
 use Rattle.theory.specs.Prenecklaces.{Prenecklace}
@@ -47,15 +47,15 @@ pub record SearchedTo (s : DS.Strip) (g : Goal) (out : List ℕ) (j period : ℕ
   pub rest : drop j out ≡ replicate (s.n - j) (s.k - 1)
   pub repeats : 0 < j → Periodic (goal_word s.k s.n g) period j
 
-module _ {s : DS.Strip} (g : Goal) (h : Shaped s) (inside : Within s g) where
+module _ (s : DS.Strip) (g : Goal) (inside : Within s g) where
   abbrev T : List ℕ
   T = goal_word s.k s.n g
 
   l : Limits s.k s.n
-  l = limits h
+  l = limits s
 
   t : Target s.k s.n T
-  t = target s g h inside
+  t = target s g inside
 
   pub search_start : (before : List ℕ) {out : List ℕ} → length before ≡ s.n → out ≡ filled (s.k - 1) 0 before → SearchedTo s g out 0 0
   search_start before {out} e f = record {
@@ -97,7 +97,6 @@ module _ {s : DS.Strip} (g : Goal) (h : Shaped s) (inside : Within s g) where
 
     word : WordOn s out
     word = record {
-      shaped = h;
       long = a.size;
       marks = subst (λ r. marks_ok s.k r ≡ true) (take-append-drop j out) (marks-append s.k (take j out) (drop j out)
           (subst (λ r. marks_ok s.k r ≡ true) a.begun (marks-take s.k j T t.marks))

@@ -30,10 +30,10 @@ module _ {s : DS.Strip} {g : Goal} {w : List ℕ} {j from : ℕ} (h : Searching 
   sought = get_or T j 0
 
   l : Limits s.k s.n
-  l = limits h.word.shaped
+  l = limits s
 
   t : Target s.k s.n T
-  t = target s g h.word.shaped h.goal_in
+  t = target s g h.goal_in
 
   in_word : j < length w
   in_word = omega (arith, h.at, h.word.long)
@@ -49,7 +49,6 @@ module _ {s : DS.Strip} {g : Goal} {w : List ℕ} {j from : ℕ} (h : Searching 
 
   tried_word : (c : ℕ) → c < s.k → WordOn s (set w j c)
   tried_word c b = record {
-    shaped = h.word.shaped;
     long = length-set w j c ∙ h.word.long;
     marks = subst (λ r. marks_ok s.k r ≡ true) (sym (set_split w j c in_word)) (marks-append s.k (take j w) (c ∷ drop (suc j) w) (marks-take s.k j w h.word.marks) (marks_cons s.k c (drop (suc j) w) b (marks-drop s.k (suc j) w h.word.marks)));
   }

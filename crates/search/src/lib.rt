@@ -5,7 +5,7 @@ ghost use Rattle.std.specs.Prelude.{◌≡◌, ◌≤◌, ◌<◌, length};
 ghost use Rattle.theory.specs.Words.{up_to};
 ghost use Rattle.theory.specs.Prenecklaces.{Prenecklace};
 ghost use Rattle.automaton.specs.Tables.{cells};
-ghost use Rattle.shape.specs.Shapes.{Shaped, WordOn};
+ghost use Rattle.shape.specs.Shapes.{WordOn};
 ghost use Rattle.search.specs.Goals.{Within, goal_word, Searching, Found, letter_back, period_with};
 
 use shape::Strip;
@@ -77,7 +77,7 @@ fn period_with(period: usize, j: usize, from: u8, c: u8) -> usize
 
 // The word searched for, letter by letter, over a buffer of n bytes; one table for all letters tried.
 pub fn find(s: Strip, goal: Goal, out: &mut [u8])
-    requires { Shaped s × Within s goal × (length out.old ≡ s.n) }
+    requires { Within s goal × (length out.old ≡ s.n) }
     ensures { out.new ≡ goal_word s.k s.n goal }
 {
     buffers::fill(out, 0, (s.k - 1) as u8);

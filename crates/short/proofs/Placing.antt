@@ -29,7 +29,7 @@ module _ {s : DS.Strip} {w : List ℕ} (on : WordOn s w) (primitive : root w ≡
   n = s.n
 
   pub turn_short : turn < n
-  turn_short = omega (arith, least_turn-root w (omega (arith, on.long, (limits on.shaped).some)))
+  turn_short = omega (arith, least_turn-root w (omega (arith, on.long, (limits s).some)))
 
   reaches : turned turn w ≡ smallest w
   reaches = ap (λ r. turned r w) least ∙ least_turn-smallest w
@@ -60,16 +60,15 @@ module _ {s : DS.Strip} {w : List ℕ} (on : WordOn s w) (primitive : root w ≡
     pub base_on : WordOn s v
     base_on = elim (split turn lead) [
       | upto l ↦ subst (WordOn s) (sym (lowered l)) (record {
-        shaped = on.shaped;
         long = omega (arith, length-append (drop turn w) (replicate turn 0), length-drop turn w, length-replicate {A = ℕ} turn 0, turn_short, on.long);
-        marks = marks-append k (drop turn w) (replicate turn 0) (marks-drop k turn w on.marks) (marks-replicate k turn 0 (omega (arith, (limits on.shaped).two)));
+        marks = marks-append k (drop turn w) (replicate turn 0) (marks-drop k turn w on.marks) (marks-replicate k turn 0 (omega (arith, (limits s).two)));
       })
-      | over l ↦ subst (WordOn s) (sym (kept l)) (record { shaped = on.shaped; long = smallest-length w ∙ on.long; marks = smallest-marks k w on.marks })
+      | over l ↦ subst (WordOn s) (sym (kept l)) (record { long = smallest-length w ∙ on.long; marks = smallest-marks k w on.marks })
     ]
 
     -- the window's first letters, or all of them, end where the words up to v end
     ends : short_place_of k n w + pick (eqb turn 0) n turn ≡ pick (eqb (rank k v) 0) (short_size k n) (n * rank k v)
-    ends = let r = limits on.shaped in short_place k n w turn v r.two r.some on.long on.marks primitive reaches turn_short not_top top
+    ends = let r = limits s in short_place k n w turn v r.two r.some on.long on.marks primitive reaches turn_short not_top top
 
     module _ {words end : ℕ} (ranked : words ≡ rank k v) (at : end ≡ pick (eqb words 0) (short_size k n) (n * words)) where
       ended : short_place_of k n w + pick (eqb turn 0) n turn ≡ end

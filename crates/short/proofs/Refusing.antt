@@ -43,9 +43,9 @@ module _ (k n : ℕ) (w : List ℕ) {c : Checked} where
       let (word, repeat) = first_none (the_word_fault k n w) _ (passed (short_window_fault k n w) k n e g).0 in
       let on = strip_is (short_window_fault k n w) k n (λ z. (first_none (strip_fault k n) _ (first_none (the_word_fault k n w) _ z).0).0) e g in
       let (long, marks) = word_fine k n w (first_none (strip_fault k n) _ word).1 in
-      let some : 0 < length w = omega (arith, long, on.marks, (limits on.shaped).some) in
+      let some : 0 < length w = omega (arith, long, on.marks, (limits s).some) in
       let most : n ≤ root w = ltb-false (root w) n (when-none _ 16 (λ z. omega arith) repeat) in (
         on,
-        record { shaped = on.shaped; long = long ∙ sym on.marks; marks = subst (λ x. marks_ok x w ≡ true) (sym on.letters) marks },
+        record { long = long ∙ sym on.marks; marks = subst (λ x. marks_ok x w ≡ true) (sym on.letters) marks },
         omega (arith, root-size some (root_is w some), long, on.marks),
       )

@@ -4,7 +4,7 @@
 ghost use Rattle.std.specs.Prelude.{◌≡◌, ◌*◌, ◌≤◌, eqb, ltb, length};
 ghost use Rattle.theory.specs.Words.{pick, root, how_many};
 ghost use Rattle.theory.specs.Shorts.{short_size, short_place_of};
-ghost use Rattle.shape.specs.Shapes.{Shaped, WordOn};
+ghost use Rattle.shape.specs.Shapes.{WordOn};
 ghost use Rattle.calls.specs.Refusals.{short_window_fault};
 ghost use Rattle.calls.specs.Checks.{Checks};
 ghost use Rattle.locator.specs.Fits.{cleared};
@@ -42,7 +42,7 @@ fn base(turn: usize, lead: usize, v: &mut [u8])
 
 // Where so many of the ring's first words end. Where none is, its last word does, since it is a ring.
 fn end_of(s: Strip, words: u64) -> u64
-    requires { Shaped s × (words ≤ how_many s.k s.n) }
+    requires { (words ≤ how_many s.k s.n) }
     ensures { result ≡ pick (eqb words 0) (short_size s.k s.n) (s.n * words) }
 {
     if words == 0 {

@@ -9,11 +9,11 @@ use Rattle.access.proofs.end_of.Goals as goal
 pub whole-requires : goal.whole-requires
 whole-requires c =
     let (on, pre) = c.requires in
-    (counted on, pre, on.shaped.size ∙ ap (λ m. c.args.s.k ^ m) (sym on.long), refl)
+    (counted on, pre, c.args.s.whole ∙ ap (λ m. c.args.s.k ^ m) (sym on.long), refl)
 
 pub overflow_mul-result : goal.overflow_mul-result
 overflow_mul-result c =
-    omega (arith, words_fit c.requires.0.shaped (rank-counted c.requires.0), ap (λ r. c.args.s.n * r) c.of_prenecklace.ensures.0)
+    omega (arith, words_fit c.args.s (rank-counted c.requires.0), ap (λ r. c.args.s.n * r) c.of_prenecklace.ensures.0)
 
 pub returns-in-Divisors : goal.returns-in-Divisors
 returns-in-Divisors c =

@@ -17,7 +17,7 @@ slice_bounds-copy-end-2 c = sym (held-length c.holder-spot.ensures.held)
 pub copy-requires : goal.copy-requires
 copy-requires c =
     let held = c.holder-spot.ensures.held in
-    omega (arith, held-length held, held_fits held, held.size, (limits held.shaped).short, c.requires.3)
+    omega (arith, held-length held, held_fits held, held.size, (limits c.args.s).short, c.requires.2)
 
 pub shape_of-room : goal.shape_of-room
 shape_of-room c = search rules

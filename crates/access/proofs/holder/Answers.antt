@@ -7,11 +7,11 @@ use Rattle.access.proofs.holder.Goals as goal
 
 pub strip_holder-requires : goal.strip_holder-requires
 strip_holder-requires c =
-    (c.requires.0, subst (λ x. c.args.p < size_in x c.args.s) c.in-Divisors.is c.requires.1, c.requires.2)
+    (subst (λ x. c.args.p < size_in x c.args.s) c.in-Divisors.is c.requires.0, c.requires.1)
 
 pub short_holder-requires : goal.short_holder-requires
 short_holder-requires c =
-    (c.requires.0, subst (λ x. c.args.p < size_in x c.args.s) c.in-Whole.is c.requires.1, c.requires.2)
+    (subst (λ x. c.args.p < size_in x c.args.s) c.in-Whole.is c.requires.0, c.requires.1)
 
 pub returns-in-Divisors : goal.returns-in-Divisors
 returns-in-Divisors c =

@@ -6,16 +6,16 @@ use Rattle.access.proofs.Reading.{in_room, held_inside, held_letter}
 use Rattle.access.proofs.letter.Goals as goal
 
 pub slice_bounds-room-end : goal.slice_bounds-room-end
-slice_bounds-room-end c = omega (arith, (limits c.requires.0).short)
+slice_bounds-room-end c = omega (arith, (limits c.args.s).short)
 
 pub slice_bounds-v-end : goal.slice_bounds-v-end
-slice_bounds-v-end c = sym (in_room c.requires.0)
+slice_bounds-v-end c = sym (in_room c.args.s)
 
 pub holder-spot-requires : goal.holder-spot-requires
-holder-spot-requires c = (c.requires.0, c.requires.1, in_room c.requires.0)
+holder-spot-requires c = (c.requires, in_room c.args.s)
 
 pub bounds-v-at : goal.bounds-v-at
-bounds-v-at c = held_inside c.args.p c.requires.0 c.requires.1 c.holder-spot.ensures
+bounds-v-at c = held_inside c.args.p c.requires c.holder-spot.ensures
 
 pub returns : goal.returns
-returns c = held_letter c.args.p c.requires.0 c.requires.1 c.holder-spot.ensures
+returns c = held_letter c.args.p c.requires c.holder-spot.ensures

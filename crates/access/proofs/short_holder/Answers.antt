@@ -7,17 +7,17 @@ use Rattle.access.proofs.Holding.{index_within, index_small, short_is}
 use Rattle.access.proofs.short_holder.Goals as goal
 
 pub nonzero_div-p : goal.nonzero_div-p
-nonzero_div-p c = (limits c.requires.0).some
+nonzero_div-p c = (limits c.args.s).some
 
 pub overflow_add-p : goal.overflow_add-p
 overflow_add-p c =
-    omega (arith, index_small c.args.p c.requires.0 c.requires.1, div-le_self c.args.p c.args.s.n)
+    omega (arith, index_small c.args.s c.args.p c.requires.0, div-le_self c.args.p c.args.s.n)
 
 pub find-requires : goal.find-requires
-find-requires c = (c.requires.0, index_within c.args.p c.requires.0 c.requires.1, c.requires.2)
+find-requires c = (index_within c.args.s c.args.p c.requires.0, c.requires.1)
 
 pub nonzero_rem-result : goal.nonzero_rem-result
-nonzero_rem-result c = (limits c.requires.0).some
+nonzero_rem-result c = (limits c.args.s).some
 
 pub returns : goal.returns
-returns c = short_is c.args.p c.requires.0 c.requires.1 c.find.ensures refl refl
+returns c = short_is c.args.s c.args.p c.requires.0 c.find.ensures refl refl

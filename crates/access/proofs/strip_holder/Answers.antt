@@ -7,19 +7,19 @@ use Rattle.access.proofs.strip_holder.Goals as goal
 
 pub whole-end-requires : goal.whole-end-requires
 whole-end-requires c =
-    let (counted, pre, top) = holder_asks c.args.p c.requires.0 c.requires.1 c.find.ensures in
+    let (counted, pre, top) = holder_asks c.args.s c.args.p c.requires.0 c.find.ensures in
     (counted, pre, top, refl)
 
 pub overflow_add-at : goal.overflow_add-at
 overflow_add-at c =
-    let fits = holder_fits c.args.p c.requires.0 c.requires.1 c.find.ensures in
+    let fits = holder_fits c.args.s c.args.p c.requires.0 c.find.ensures in
     omega (arith, fits, c.shortest_root-long.ensures)
 
 pub overflow_sub-at : goal.overflow_sub-at
 overflow_sub-at c =
-    let fits = holder_fits c.args.p c.requires.0 c.requires.1 c.find.ensures in
+    let fits = holder_fits c.args.s c.args.p c.requires.0 c.find.ensures in
     omega (arith, fits, c.shortest_root-long.ensures, c.whole-end.ensures.0)
 
 pub returns : goal.returns
 returns c =
-    holder_is c.args.p c.requires.0 c.requires.1 c.find.ensures c.shortest_root-long.ensures (ap₂ (λ x y. c.args.p + x - y) c.shortest_root-long.ensures c.whole-end.ensures.0)
+    holder_is c.args.s c.args.p c.requires.0 c.find.ensures c.shortest_root-long.ensures (ap₂ (λ x y. c.args.p + x - y) c.shortest_root-long.ensures c.whole-end.ensures.0)

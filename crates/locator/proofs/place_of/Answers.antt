@@ -15,10 +15,10 @@ use Rattle.locator.proofs.place_of.Goals.{After-base, After-count_leading-lead, 
 use Rattle.locator.proofs.place_of.Goals as goal
 
 pub overflow_sub-k : goal.overflow_sub-k
-overflow_sub-k c = omega (arith, (limits c.requires.shaped).two)
+overflow_sub-k c = omega (arith, (limits c.args.s).two)
 
 pub overflow_cast-k : goal.overflow_cast-k
-overflow_cast-k c = omega (arith, (limits c.requires.shaped).most)
+overflow_cast-k c = omega (arith, (limits c.args.s).most)
 
 pub slice_bounds-count_leading-count : goal.slice_bounds-count_leading-count
 slice_bounds-count_leading-count c = let a = c.args in omega (arith, c.count_leading-lead.ensures, leading_length (a.s.k - 1) a.w.now)
@@ -40,7 +40,7 @@ returns-then-lead-count_leading c =
 
 -- before `smallest`: the window is no longer than the buffer
 pub slice_bounds-room-end : goal.slice_bounds-room-end
-slice_bounds-room-end c = let on = c.requires in omega (arith, on.long, (limits on.shaped).short)
+slice_bounds-room-end c = let on = c.requires in omega (arith, on.long, (limits c.args.s).short)
 
 pub slice_bounds-v-end : goal.slice_bounds-v-end
 slice_bounds-v-end c = sym (length-take-le _ (replicate 60 0) (slice_bounds-room-end (goal.at.slice_bounds-v-end c).Else-lead-count_leading))
@@ -51,7 +51,7 @@ smallest-turn-requires c = omega (arith, slice_bounds-v-end (goal.at.smallest-tu
 rotation : (c : After-smallest-turn) → c.smallest-turn.new.out ≡ smallest c.args.w.now
 rotation c =
     let w = c.args.w.now in
-    c.smallest-turn.ensures.1 ∙ over-whole (smallest w) _ (smallest-length w ∙ sym (length-take-le _ (replicate 60 0) (let on = c.requires in omega (arith, on.long, (limits on.shaped).short))))
+    c.smallest-turn.ensures.1 ∙ over-whole (smallest w) _ (smallest-length w ∙ sym (length-take-le _ (replicate 60 0) (let on = c.requires in omega (arith, on.long, (limits c.args.s).short))))
 
 pub base-requires : goal.base-requires
 base-requires c =

@@ -10,13 +10,13 @@ pub loop-l-init : goal.loop-l-init
 loop-l-init c = let h = c.requires in way_starts h (forth_on h)
 
 pub next-l-requires : goal.next-l-requires
-next-l-requires c = let h = c.requires in let r = limits h.shaped in asks (forth_on h) (held_in h) c.loop-l.invariant r.two r.most
+next-l-requires c = let h = c.requires in let r = limits c.args.s in asks (forth_on h) (held_in h) c.loop-l.invariant r.two r.most
 
 pub put_first-requires : goal.put_first-requires
 put_first-requires c =
     let h = c.requires in
     let g = c.loop-l.invariant in
-    let r = limits h.shaped in
+    let r = limits c.args.s in
     asks_round (forth_on h) (held_in h) g (next_put g c.next-l.ensures) r.some c.if-l-eq0.true
 
 pub returns-then-l-eq0 : goal.returns-then-l-eq0
@@ -24,14 +24,14 @@ returns-then-l-eq0 c =
     let h = c.requires in
     let f = c.args in
     let g = c.loop-l.invariant in
-    let r = limits h.shaped in
+    let r = limits c.args.s in
     wraps (forth_on h) (held_in h) g (next_put g c.next-l.ensures) (first_word f.lengths) c.if-l-eq0.true (first_of_lem f.lengths _ _ r.two r.some) c.put_first.ensures
 
 pub overflow_add-passed : goal.overflow_add-passed
 overflow_add-passed c =
     let h = c.requires in
     let g = c.loop-l.invariant in
-    omega (arith, (limits h.shaped).short, counts (forth_on h) (held_in h) g (next_put g c.next-l.ensures) c.if-l-eq0.false)
+    omega (arith, (limits c.args.s).short, counts (forth_on h) (held_in h) g (next_put g c.next-l.ensures) c.if-l-eq0.false)
 
 pub returns-then-allows : goal.returns-then-allows
 returns-then-allows c =

@@ -10,16 +10,16 @@ abbrev middle : ℕ → ℕ → ℕ
 middle low high = low + (high - low) / 2
 
 pub overflow_sub-high : goal.overflow_sub-high
-overflow_sub-high c = omega (arith, (limits c.requires.0.word.shaped).two)
+overflow_sub-high c = omega (arith, (limits c.args.s).two)
 
 pub overflow_cast-high : goal.overflow_cast-high
-overflow_cast-high c = omega (arith, (limits c.requires.0.word.shaped).most)
+overflow_cast-high c = omega (arith, (limits c.args.s).most)
 
 pub loop-low-init : goal.loop-low-init
 loop-low-init c = (bisect_start c.requires.0, c.requires.1)
 
 pub overflow_add-mid : goal.overflow_add-mid
-overflow_add-mid c = omega (arith, c.loop-low.invariant.0.top, (limits c.requires.0.word.shaped).most)
+overflow_add-mid c = omega (arith, c.loop-low.invariant.0.top, (limits c.args.s).most)
 
 pub bounds-w-j : goal.bounds-w-j
 bounds-w-j c = bisect_inside c.requires.0 c.loop-low.invariant.0
@@ -36,7 +36,7 @@ loop-low-preserved-then-reaches c =
     (bisect_low c.requires.0 l.invariant.0 (middle l.low l.high) c.reaches.ensures (omega arith) c.if-reaches.true, c.reaches.auto.t ∙ l.invariant.1)
 
 pub overflow_add-low : goal.overflow_add-low
-overflow_add-low c = omega (arith, c.loop-low.invariant.0.top, (limits c.requires.0.word.shaped).most)
+overflow_add-low c = omega (arith, c.loop-low.invariant.0.top, (limits c.args.s).most)
 
 pub loop-low-preserved : goal.loop-low-preserved
 loop-low-preserved c =

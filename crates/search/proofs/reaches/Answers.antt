@@ -8,7 +8,7 @@ use Rattle.search.proofs.reaches.Goals as goal
 pub whole-requires : goal.whole-requires
 whole-requires c =
     let (on, pre, _, long) = c.requires in
-    (counted on, pre, on.shaped.size ∙ ap (λ m. c.args.s.k ^ m) (sym on.long), long)
+    (counted on, pre, c.args.s.whole ∙ ap (λ m. c.args.s.k ^ m) (sym on.long), long)
 
 pub returns-in-Index : goal.returns-in-Index
 returns-in-Index c =

@@ -17,25 +17,25 @@ use Rattle.short.proofs.place_of.Goals.{After-base, After-end_of-end, After-room
 use Rattle.short.proofs.place_of.Goals as goal
 
 pub slice_bounds-room-end : goal.slice_bounds-room-end
-slice_bounds-room-end c = let on = c.requires.0 in omega (arith, on.long, (limits on.shaped).short)
+slice_bounds-room-end c = let on = c.requires.0 in omega (arith, on.long, (limits c.args.s).short)
 
 pub slice_bounds-v-end : goal.slice_bounds-v-end
-slice_bounds-v-end c = let on = c.requires.0 in sym (length-take-le _ (replicate 60 0) (omega (arith, on.long, (limits on.shaped).short)))
+slice_bounds-v-end c = let on = c.requires.0 in sym (length-take-le _ (replicate 60 0) (omega (arith, on.long, (limits c.args.s).short)))
 
 pub smallest-turn-requires : goal.smallest-turn-requires
 smallest-turn-requires c = omega (arith, slice_bounds-v-end (goal.at.smallest-turn-requires c).After-room-1)
 
 pub overflow_sub-s : goal.overflow_sub-s
-overflow_sub-s c = omega (arith, (limits c.requires.0.shaped).two)
+overflow_sub-s c = omega (arith, (limits c.args.s).two)
 
 pub overflow_cast-s : goal.overflow_cast-s
-overflow_cast-s c = omega (arith, (limits c.requires.0.shaped).most)
+overflow_cast-s c = omega (arith, (limits c.args.s).most)
 
 -- after `smallest`: the buffer holds the smallest rotation
 rotation : (c : After-smallest-turn) → c.smallest-turn.new.out ≡ smallest c.args.w.now
 rotation c =
     let w = c.args.w.now in
-    c.smallest-turn.ensures.1 ∙ over-whole (smallest w) _ (smallest-length w ∙ sym (length-take-le _ (replicate 60 0) (let on = c.requires.0 in omega (arith, on.long, (limits on.shaped).short))))
+    c.smallest-turn.ensures.1 ∙ over-whole (smallest w) _ (smallest-length w ∙ sym (length-take-le _ (replicate 60 0) (let on = c.requires.0 in omega (arith, on.long, (limits c.args.s).short))))
 
 pub base-requires : goal.base-requires
 base-requires c =
