@@ -3,10 +3,9 @@ use mathlib.Core.Path.{◌≡◌, ◌∙◌, ap₂}
 use Prim.Native.Nat.{ℕ, ◌≤◌, ◌<◌}
 use native.Mathlib.Omega.{arith}
 use lib.Dec.{leb}
-use borrow.Author.Tests.{leb-false, le-leb, lt-leb}
+use borrow.Author.Tests.{le-leb, lt-leb}
 use Rattle.theory.specs.Words.{when}
 use Rattle.theory.specs.Strips.{strip_fault}
-use Rattle.theory.proofs.Faults.{first_none, when-none}
 use Rattle.shape.specs.declared.Strip as DS
 use Rattle.shape.specs.declared.Lengths.{Lengths}
 use Rattle.shape.specs.Rings.{size_of, size_in}
@@ -23,9 +22,3 @@ module _ (lengths : Lengths) (k n : ℕ) (p : ℕ) (s : DS.Strip) (on : StripOf 
 
   pub place_fine : strip_fault k n ≡ 0 → p < size_in lengths s → ring_fault lengths k n p ≡ 0
   place_fine e h = rw (e, lt-leb (size_of lengths k n) p (omega (arith, size_of_lem)))
-
-  -- a place without fault
-  pub place_within : ring_fault lengths k n p ≡ 0 → p < size_in lengths s
-  place_within e =
-      let below : p < size_of lengths k n = leb-false (size_of lengths k n) p (when-none _ 4 (λ z. omega arith) (first_none (strip_fault k n) _ e).1) in
-      omega (arith, below, size_of_lem)

@@ -1,7 +1,7 @@
 // How many places a ring has, and whether a place is one of them.
 #![tactic(auto)]
 
-ghost use Rattle.std.specs.Prelude.{◌≡◌};
+ghost use Rattle.std.specs.Prelude.{◌≡◌, ◌<◌, IfOk};
 ghost use Rattle.shape.specs.Rings.{size_in};
 ghost use Rattle.calls.specs.Refusals.{ring_fault};
 ghost use Rattle.calls.specs.Checks.{Checks};
@@ -21,7 +21,8 @@ pub fn size(lengths: Lengths, s: Strip) -> u64
 
 // Is there such a strip, and is it a place on its ring?
 pub fn check_place(lengths: Lengths, k: u64, n: u64, place: u64) -> Result<Strip, Refusal>
-    ensures { Checks (ring_fault lengths k n place) k n result }
+    ensures strip { Checks (ring_fault lengths k n place) k n result }
+    ensures within { IfOk result (λ s. place < size_in lengths s) }
 {
     let strip = calls::check_strip(k, n)?;
     if size(lengths, strip) <= place {

@@ -1,8 +1,9 @@
 // What all calls share: the refusals, arguments that are checked before a call goes on, and numbers as answers.
 #![tactic(auto)]
 
-ghost use Rattle.std.specs.Prelude.{◌≡◌};
+ghost use Rattle.std.specs.Prelude.{◌≡◌, IfOk};
 ghost use Rattle.theory.specs.Strips.{strip_fault};
+ghost use Rattle.shape.specs.Shapes.{WordOn};
 ghost use Rattle.calls.specs.Codes.{number_of};
 ghost use Rattle.calls.specs.Refusals.{the_word_fault};
 ghost use Rattle.calls.specs.Checks.{Checks};
@@ -26,7 +27,8 @@ pub fn check_strip(k: u64, n: u64) -> Result<Strip, Refusal>
 
 // And is it a word of n marks on it?
 pub fn check_word(k: u64, n: u64, word: &[u8]) -> Result<Strip, Refusal>
-    ensures { Checks (the_word_fault k n word.now) k n result }
+    ensures strip { Checks (the_word_fault k n word.now) k n result }
+    ensures word { IfOk result (λ s. WordOn s word.now) }
 {
     let strip = check_strip(k, n)?;
     if word.len() as u64 != n {

@@ -1,3 +1,2 @@
--- What the proofs of the functions lean on: the section of a place, and what opening a plan says.
+-- What the proofs of the functions lean on: the section of a place.
 pub mod Places
-pub mod Opening

@@ -1,10 +1,10 @@
 // Laying plans: is one accepted, and which of its sections is the window at a place laid in?
 #![tactic(auto)]
 
-ghost use Rattle.std.specs.Prelude.{◌≡◌, false, ◌^◌, ◌<◌};
+ghost use Rattle.std.specs.Prelude.{◌≡◌, IfOk, false, ◌^◌, ◌<◌};
 ghost use Rattle.theory.specs.Plans.{end_of, torn, straight_from, sections, plan_fault, welded};
 ghost use Rattle.sections.specs.Read.{section_of};
-ghost use Rattle.plans.specs.Opened.{Opens, Lays};
+ghost use Rattle.plans.specs.Opened.{Opens, Accepted, Lays};
 ghost use Rattle.plans.specs.Begun.{Begun};
 
 use calls::Refusal;
@@ -41,7 +41,8 @@ fn is_straight(n: u64, top: u64, plan: &[u8]) -> bool
 
 // The strip of an accepted plan.
 pub fn open(plan: &[u8]) -> Result<Strip, Refusal>
-    ensures { Opens plan.now result }
+    ensures strip { Opens plan.now result }
+    ensures accepted { IfOk result (λ s. Accepted plan.now s) }
 {
     if sections::is_torn(plan) {
         return Err(Refusal::TornPlan);

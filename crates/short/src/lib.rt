@@ -1,7 +1,7 @@
 // Windows on the short ring: which are refused, and the place of one, by ranks.
 #![tactic(auto)]
 
-ghost use Rattle.std.specs.Prelude.{◌≡◌, ◌*◌, ◌≤◌, eqb, ltb, length};
+ghost use Rattle.std.specs.Prelude.{◌≡◌, IfOk, ◌*◌, ◌≤◌, eqb, ltb, length};
 ghost use Rattle.theory.specs.Words.{pick, root, how_many};
 ghost use Rattle.theory.specs.Shorts.{short_size, short_place_of};
 ghost use Rattle.shape.specs.Shapes.{WordOn};
@@ -9,22 +9,19 @@ ghost use Rattle.calls.specs.Refusals.{short_window_fault};
 ghost use Rattle.calls.specs.Checks.{Checks};
 ghost use Rattle.locator.specs.Fits.{cleared};
 
-use calls::{Checked, refusals};
+use calls::Refusal;
 use shape::{Lengths, Strip};
 
 // Is there such a strip, is it a word of n marks on it, and no shorter word repeated?
-pub fn check_window(k: u64, n: u64, window: &[u8]) -> Checked
-    ensures { Checks (short_window_fault k n window.now) k n result }
+pub fn check_window(k: u64, n: u64, window: &[u8]) -> Result<Strip, Refusal>
+    ensures strip { Checks (short_window_fault k n window.now) k n result }
+    ensures word { IfOk result (λ s. WordOn s window.now × (root window.now ≡ s.n)) }
 {
-    match calls::check_word(k, n, window) {
-        Checked::Refused(number) => Checked::Refused(number),
-        Checked::Strip(strip) => {
-            if (rotations::shortest_root(window) as u64) < n {
-                return Checked::Refused(refusals::REPEATING_WINDOW);
-            }
-            Checked::Strip(strip)
-        }
+    let strip = calls::check_word(k, n, window)?;
+    if (rotations::shortest_root(window) as u64) < n {
+        return Err(Refusal::RepeatingWindow);
     }
+    Ok(strip)
 }
 
 // The word whose rank tells the place. The window is α γ with γ α its smallest rotation, which v holds, and α its first `turn` letters. It is γ α, if

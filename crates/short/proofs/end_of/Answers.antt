@@ -14,7 +14,7 @@ returns-then-words-eq0 c =
     c.size.ensures ∙ sym (ap (λ t. pick t (short_size a.s.k a.s.n) (a.s.n * a.words)) (eq-eqb a.words 0 c.if-words-eq0.true))
 
 pub overflow_mul-result : goal.overflow_mul-result
-overflow_mul-result c = omega (arith, words_fit c.requires.0 c.requires.1)
+overflow_mul-result c = omega (arith, words_fit c.args.s c.requires)
 
 pub returns : goal.returns
 returns c =

@@ -57,7 +57,7 @@ of_word-requires c =
 pub end_of-end-requires : goal.end_of-end-requires
 end_of-end-requires c =
     let (on, primitive) = c.requires in
-    (on.shaped, omega (arith, c.of_word.ensures, rank-counted (base_on on primitive c.smallest-turn.ensures.0 c.count_leading.ensures (is_base (goal.at.end_of-end-requires c).After-base (rotation (goal.at.end_of-end-requires c).After-smallest-turn)))))
+    omega (arith, c.of_word.ensures, rank-counted (base_on on primitive c.smallest-turn.ensures.0 c.count_leading.ensures (is_base (goal.at.end_of-end-requires c).After-base (rotation (goal.at.end_of-end-requires c).After-smallest-turn))))
 
 own : (c : After-end_of-end) (is : c.base.new.v ≡ pick (ltb c.count_leading.result c.smallest-turn.result) (smallest c.args.w.now) (cleared c.smallest-turn.result (smallest c.args.w.now)))
     → let a = c.args in
