@@ -1,12 +1,12 @@
 -- What the calls on the Lyndon words of a length promise. A tray holds t at the call and t' at the return.
-use Rattle.std.specs.Prelude.{List, [], ℕ, eqb}
+use Rattle.std.specs.Prelude.{Result, List, [], ℕ, eqb}
 use Rattle.theory.specs.Words.{pick, how_many, rank, word_of}
-use Rattle.calls.specs.declared.Value as DV
+use Rattle.calls.specs.declared.refusal.Refusal.{Refusal}
 use Rattle.theory.specs.Strips.{strip_fault}
 use Rattle.calls.specs.Refusals.{the_word_fault, index_fault}
 use Rattle.calls.specs.Answers.{Into, Number, ValueIs}
 
-abbrev pub ManySays : ℕ → ℕ → DV.Value → Type 0
+abbrev pub ManySays : ℕ → ℕ → Result ℕ Refusal → Type 0
 ManySays k n r = ValueIs (strip_fault k n) (how_many k n) r
 
 abbrev pub RankSays : ℕ → ℕ → List ℕ → List ℕ → List ℕ → ℕ → Type 0

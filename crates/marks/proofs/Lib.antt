@@ -1,2 +1,0 @@
--- Laws of printed marks.
-pub mod Prints

@@ -1,2 +1,0 @@
--- Laws of an index.
-pub mod Indexes
