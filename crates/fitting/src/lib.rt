@@ -38,10 +38,8 @@ pub fn find(plan: &[u8], s: Strip, w: &[u8]) -> Fit
 {
     let total = erasures::fillings(s.k, w);
     let mut best = s.size;
-    let mut c = 0;
-    while c < total {
+    for c in 0..total {
         best = better(plan, s, w, c, best);
-        c += 1;
     }
     if best == s.size {
         return Fit::Nowhere;
