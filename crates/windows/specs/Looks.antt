@@ -1,27 +1,21 @@
--- What looking for a window in a plan answers: where it is laid if there is no fault, else the fault's number (7, 1, 8, 2, 3, 9).
-use Rattle.std.specs.Prelude.{◌≡◌, List, ℕ, eqb}
-use Rattle.theory.specs.Words.{pick}
+-- What looking for a window in a plan answers: where it is laid if there is no fault, else the fault's refusal (7, 1, 8, 2, 3, 9).
+use Rattle.std.specs.Prelude.{◌≡◌, ◌+◌, Result, MatchResult, List, ℕ}
 use Rattle.theory.specs.Strips.{place_of}
-use Rattle.theory.specs.Plans.{shades, marks, laying_of, lookup_fault}
-use Rattle.calls.specs.Checks.{strip_of}
+use Rattle.theory.specs.Plans.{shades, marks, laying_at, lookup_fault}
+use Rattle.shape.specs.Shapes.{WordOn}
+use Rattle.calls.specs.declared.refusal.Refusal.{Refusal}
+use Rattle.calls.specs.Codes.{code}
+use Rattle.plans.specs.Opened.{Accepted}
 use Rattle.windows.specs.declared.Spot as DP
-use Rattle.windows.specs.declared.Looked.{Looked}
-use Rattle.windows.specs.declared.Looked.TheVariants.{Laid, Refused}
 
--- where a window is laid
-abbrev pub spot_of : List ℕ → List ℕ → DP.Spot
-spot_of s w = record { strip = strip_of (shades s) (marks s); place = place_of (shades s) (marks s) w; laying = laying_of s w }
-
--- shut, since the laws in proofs/Looking say all that a caller needs
-unfoldable pub looked_for : List ℕ → List ℕ → Looked
-looked_for s w = let f = lookup_fault s w in pick (eqb f 0) (Laid (spot_of s w)) (Refused f)
-
--- the paper's number for each case of an answer
-abbrev pub number_of : Looked → ℕ
-number_of (Laid x) = 0
-number_of (Refused f) = f
+-- a window that is laid: in an accepted plan, a word of its strip, at its place, in its section
+pub record Found (s w : List ℕ) (x : DP.Spot) : Type 0 where
+  pub fine : lookup_fault s w ≡ 0
+  pub plan : Accepted s x.strip
+  pub word : WordOn x.strip w
+  pub place_is : x.place ≡ place_of (shades s) (marks s) w
+  pub laid : laying_at s x.place ≡ x.section + 1
 
 -- what looking promises
-pub record Looks (s w : List ℕ) (r : Looked) : Type 0 where
-  pub number : number_of r ≡ lookup_fault s w
-  pub is : r ≡ looked_for s w
+abbrev pub Looks : List ℕ → List ℕ → Result DP.Spot Refusal → Type 0
+Looks s w r = MatchResult r (Found s w) (λ e. code e ≡ lookup_fault s w)

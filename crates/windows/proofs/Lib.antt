@@ -1,2 +1,0 @@
--- Laws of looking for a window in a plan.
-pub mod Looking
