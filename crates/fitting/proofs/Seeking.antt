@@ -8,7 +8,7 @@ use native.Mathlib.Omega.{arith}
 use lib.Dec.{eqb, ltb}
 use lib.ListN.{length}
 use borrow.Author.Tests.{ltb-true, ltb-false, lt-ltb, le-ltb, ne_eqb}
-use Rattle.theory.specs.Words.{pick, when, keep, marks_ok}
+use Rattle.theory.specs.Words.{pick, keep, marks_ok}
 use Rattle.theory.specs.Lists.{In}
 use Rattle.theory.specs.Strips.{place_of}
 use Rattle.theory.specs.Plans.{shades, marks, laying_at, laid_at}
@@ -20,9 +20,7 @@ use Rattle.shape.specs.declared.Strip as DS
 use Rattle.shape.specs.Shapes.{WordOn}
 use Rattle.shape.proofs.Limits.{limits}
 use Rattle.locator.proofs.Locates.{place_small}
-use Rattle.fitting.specs.declared.Fit.{Fit}
-use Rattle.fitting.specs.declared.Fit.TheVariants.{At, Nowhere}
-use Rattle.fitting.specs.Fits.{Sought, number_of, better_of, fit_of, Finds}
+use Rattle.fitting.specs.Fits.{Sought, better_of}
 
 -- how the better of the best so far, b, and a place p is found: by comparing them, and by the section l of the window at p
 module _ (s : List ℕ) (b : ℕ) {p q : ℕ} (place : p ≡ q) where
@@ -32,31 +30,11 @@ module _ (s : List ℕ) (b : ℕ) {p q : ℕ} (place : p ≡ q) where
   pub not_lower : b ≤ p → b ≡ better_of s b q
   not_lower h = picked (ap (λ t. t && laid_at s p) (le-ltb p b h))
 
-  module _ {l : ℕ} (section : l ≡ laying_at s p) where
-    laid_is : {t : Bool} → not (eqb l 0) ≡ t → laid_at s p ≡ t
-    laid_is e = ap (λ i. not (eqb i 0)) (sym section) ∙ e
+  pub not_laid : laying_at s p ≡ 0 → b ≡ better_of s b q
+  not_laid e = picked (and_false (ltb p b) _ (rw e))
 
-    pub not_laid : not (eqb l 0) ≡ false → b ≡ better_of s b q
-    not_laid e = picked (and_false (ltb p b) _ (laid_is e))
-
-    pub lower : p < b → not (eqb l 0) ≡ true → p ≡ better_of s b q
-    lower h e = picked (and_in (lt-ltb p b h) (laid_is e))
-
--- what the search promises, once its answer is known
-number_is : (t : Bool) (p : ℕ) → number_of (pick t Nowhere (At p)) ≡ when t 9
-number_is true p = refl
-number_is false p = refl
-
-finds : (s w : List ℕ) {r : Fit} → r ≡ fit_of s w → Finds s w r
-finds s w e = record { number = ap number_of e ∙ number_is (eqb (length (fitting s w)) 0) (lowest s w); is = e }
-
--- and what a place that it answers is
-place_is : (t : Bool) {p q : ℕ} → At p ≡ pick t Nowhere (At q) → p ≡ q
-place_is true e = let z : ◌≡◌ {A = ℕ} 0 1 = cc in omega arith
-place_is false e = cc
-
-pub is_lowest : {s w : List ℕ} {r : Fit} {p : ℕ} → Finds s w r → r ≡ At p → p ≡ lowest s w
-is_lowest {s} {w} h e = place_is (eqb (length (fitting s w)) 0) (sym e ∙ h.is)
+  pub lower : p < b → ¬ (laying_at s p ≡ 0) → p ≡ better_of s b q
+  lower h e = picked (and_in (lt-ltb p b h) (ap not (ne_eqb (laying_at s p) 0 e)))
 
 -- the place of filling c
 abbrev pub spot : DS.Strip → List ℕ → ℕ → ℕ
@@ -73,7 +51,7 @@ module _ {s : List ℕ} {x : DS.Strip} {w : List ℕ} (h : Sought s x w) where
   window-long = (smudge_fine x.k x.n w h.fine).0
 
   pub window_short : length w ≤ 60
-  window_short = omega (arith, window-long, (limits h.plan.shaped).short)
+  window_short = omega (arith, window-long, (limits x).short)
 
   pub few_erasures : length (keep unread w) ≤ 2
   few_erasures = (smudge_fine x.k x.n w h.fine).1
@@ -81,9 +59,8 @@ module _ {s : List ℕ} {x : DS.Strip} {w : List ℕ} (h : Sought s x w) where
   -- a filling is a word of the strip
   pub filling_on_strip : (c : ℕ) → WordOn x (filling x.k c w)
   filling_on_strip c = record {
-    shaped = h.plan.shaped;
     long = filling-length x.k c w ∙ window-long;
-    marks = filling-marks x.k c w (omega (arith, (limits h.plan.shaped).two)) (smudge_fine x.k x.n w h.fine).2;
+    marks = filling-marks x.k c w (omega (arith, (limits x).two)) (smudge_fine x.k x.n w h.fine).2;
   }
 
   -- its place, by the plan's own k and n, is the same
@@ -135,15 +112,13 @@ module _ {s : List ℕ} {x : DS.Strip} {w : List ℕ} (h : Sought s x w) where
         (λ c l. subst (λ q. laid_at s q ≡ true → b ≤ q) (sym (by_plan c)) (best.least c (omega (arith, all, l, ap (λ k. k ^ length (keep unread w)) h.plan.letters))))
         i
 
-    pub nowhere : b ≡ x.size → Finds s w Nowhere
+    pub nowhere : b ≡ x.size → length (fitting s w) ≡ 0
     nowhere e =
-        let size : x.size ≡ shades s ^ marks s = h.plan.shaped.size ∙ ap₂ ◌^◌ h.plan.letters h.plan.marked in
-        let empty : fitting s w ≡ [] = no_members (fitting s w) (λ p i. omega (arith, below i, e, size, (fitting_in s w i).0)) in
-        finds s w (sym (ap (λ ps. pick (eqb (length ps) 0) Nowhere (At (lowest s w))) empty))
+        let size : x.size ≡ shades s ^ marks s = x.whole ∙ ap₂ ◌^◌ h.plan.letters h.plan.marked in
+        ap length (no_members (fitting s w) (λ p i. omega (arith, below i, e, size, (fitting_in s w i).0)))
 
-    pub found : ¬ (b ≡ x.size) → Finds s w (At b)
+    pub found : ¬ (b ≡ x.size) → ¬ (length (fitting s w) ≡ 0) × (b ≡ lowest s w)
     found other =
         let i = best.fits (omega (arith, other, best.most)) in
         let some = in_some i in
-        let is : b ≡ lowest s w = omega (arith, below (lowest_in s w some), lowest_least s w i) in
-        finds s w (ap At is ∙ sym (ap (λ t. pick t Nowhere (At (lowest s w))) (ne_eqb (length (fitting s w)) 0 some)))
+        (some, omega (arith, below (lowest_in s w some), lowest_least s w i))

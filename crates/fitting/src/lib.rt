@@ -8,13 +8,6 @@ ghost use Rattle.fitting.specs.Fits.{Sought, better_of, Finds};
 
 use shape::Strip;
 
-// The lowest place at which a laid window agrees, or that there is none.
-#[derive(Clone, Copy)]
-pub enum Fit {
-    At(u64),
-    Nowhere,
-}
-
 // The place of filling c, if it is below `best` and the window there is laid, else `best`. Once a laid one is known most are not below it, so the sections
 // are asked last.
 fn better(plan: &[u8], s: Strip, w: &[u8], c: u64, best: u64) -> u64
@@ -25,14 +18,14 @@ fn better(plan: &[u8], s: Strip, w: &[u8], c: u64, best: u64) -> u64
     let v = &mut room[..w.len()];
     erasures::fill(s.k, c, w, v);
     let place = locator::place_of(s, v);
-    if place < best && plans::laying(plan, place) != 0 {
+    if place < best && plans::laying(plan, place).is_some() {
         return place;
     }
     best
 }
 
-// The lowest place of a laid window that agrees. Places do not ascend with the fillings, so all are tried; the strip's size is above any place.
-pub fn find(plan: &[u8], s: Strip, w: &[u8]) -> Fit
+// The lowest place of a laid window that agrees, if any. Places do not ascend with the fillings, so all are tried; the strip's size is above any place.
+pub fn find(plan: &[u8], s: Strip, w: &[u8]) -> Option<u64>
     requires { Sought plan.now s w.now }
     ensures { Finds plan.now w.now result }
 {
@@ -42,7 +35,7 @@ pub fn find(plan: &[u8], s: Strip, w: &[u8]) -> Fit
         best = better(plan, s, w, c, best);
     }
     if best == s.size {
-        return Fit::Nowhere;
+        return None;
     }
-    Fit::At(best)
+    Some(best)
 }

@@ -8,8 +8,9 @@ use lib.Seq.{length-take-le}
 use Rattle.theory.specs.Strips.{place_of}
 use Rattle.shape.specs.Shapes.{WordOn}
 use Rattle.shape.proofs.Limits.{limits}
+use Rattle.plans.proofs.Laid.{laid_some, laid_none}
 use Rattle.fitting.proofs.Seeking.{window_short, filling_on_strip, spot, spot_small, not_lower, not_laid, lower}
-use Rattle.fitting.proofs.better.Goals.{After-place_of-place, else-place-best-via-then-place-best+else-laying-ne0, else-place-best-via-else-place-best}
+use Rattle.fitting.proofs.better.Goals.{After-place_of-place, else-place-best-via-then-place-best+else-is_some, else-place-best-via-else-place-best}
 use Rattle.fitting.proofs.better.Goals as goal
 
 pub slice_bounds-room-end : goal.slice_bounds-room-end
@@ -20,7 +21,7 @@ slice_bounds-v-end c = sym (length-take-le _ (replicate 60 0) (window_short c.re
 
 pub fill-requires : goal.fill-requires
 fill-requires c =
-    let l = limits c.requires.plan.shaped in
+    let l = limits c.args.s in
     (omega (arith, l.two), l.most, length-take-le _ (replicate 60 0) (window_short c.requires))
 
 pub place_of-place-requires : goal.place_of-place-requires
@@ -34,10 +35,11 @@ pub laying-requires : goal.laying-requires
 laying-requires c =
     (c.requires.plan.faultless, omega (arith, place_is (goal.at.laying-requires c).After-place_of-place, spot_small c.requires c.args.c))
 
-pub returns-then-laying-ne0 : goal.returns-then-laying-ne0
-returns-then-laying-ne0 c =
+pub returns-then-is_some : goal.returns-then-is_some
+returns-then-is_some c =
     let a = c.args in
-    lower a.plan.now a.best (place_is (goal.at.returns-then-laying-ne0 c).After-place_of-place) c.laying.ensures c.if-place-best.true (ap not (ne_eqb _ 0 c.if-laying-ne0.true))
+    lower a.plan.now a.best (place_is (goal.at.returns-then-is_some c).After-place_of-place) c.if-place-best.true
+    (laid_some a.plan.now _ c.laying.result c.laying.ensures (sym c.if-is_some.true ∙ c.is_some.ensures))
 
 pub returns : goal.returns
 returns c =
@@ -45,6 +47,6 @@ returns c =
     let s = a.plan.now in
     let place = place_is (goal.at.returns c).After-place_of-place in
     elim c.else-place-best.branch [
-      | else-place-best-via-then-place-best+else-laying-ne0 w ↦ not_laid s a.best place w.laying.ensures (ap not (eq-eqb _ 0 w.if-laying-ne0.false))
+      | else-place-best-via-then-place-best+else-is_some w ↦ not_laid s a.best place (laid_none s _ w.laying.result w.laying.ensures (sym w.if-is_some.false ∙ w.is_some.ensures))
       | else-place-best-via-else-place-best w ↦ not_lower s a.best place w.if-place-best.false
     ]
