@@ -36,24 +36,24 @@ two_bytes j a b t L h e = handed_on (j ∷ a ∷ []) b t (set (set t 0 j) 1 a) L
 
 module _ {s : List ℕ} {x : DS.Strip} (plan : Accepted s x) {w : List ℕ} (word : WordOn x w) (j : ℕ) {a : ℕ} (small : a < x.k) where
   pub changed_on_strip : WordOn x (changed (change j a) w)
-  changed_on_strip = record { shaped = word.shaped; long = changed-length w (change j a) ∙ word.long; marks = marks-set x.k w j a small word.marks }
+  changed_on_strip = record { long = changed-length w (change j a) ∙ word.long; marks = marks-set x.k w j a small word.marks }
 
   pub new_place_small : place_of x.k x.n (changed (change j a) w) < 2 ^ 60
   new_place_small = place_small changed_on_strip
 
-  -- the place p of the window so changed, and the section l that it is laid in
-  module _ {p l : ℕ} (place : p ≡ place_of x.k x.n (changed (change j a) w)) (section : l ≡ laying_at s p) where
+  -- the place p of the window so changed
+  module _ {p : ℕ} (place : p ≡ place_of x.k x.n (changed (change j a) w)) where
     place_is : p ≡ new_place s w (change j a)
     place_is = place ∙ ap₂ (λ k n. place_of k n (changed (change j a) w)) plan.letters plan.marked
 
-    pub wrote_not : (t : List ℕ) → l ≡ 0 → Wrote s w (change j a ∷ []) t t 0
+    pub wrote_not : (t : List ℕ) → laying_at s p ≡ 0 → Wrote s w (change j a ∷ []) t t 0
     wrote_not t z =
-        let not_laid : laid_at s (new_place s w (change j a)) ≡ false = ap (laid_at s) (sym place_is) ∙ none_laid s p (sym section ∙ z) in
+        let not_laid : laid_at s (new_place s w (change j a)) ≡ false = ap (laid_at s) (sym place_is) ∙ none_laid s p z in
         record { count = rw not_laid; bytes = rw not_laid }
 
-    pub wrote_one : (t : List ℕ) {t' : List ℕ} → ¬ (l ≡ 0) → t' ≡ over (j ∷ a ∷ put_be 8 p) t → Wrote s w (change j a ∷ []) t t' 1
+    pub wrote_one : (t : List ℕ) {t' : List ℕ} → ¬ (laying_at s p ≡ 0) → t' ≡ over (j ∷ a ∷ put_be 8 p) t → Wrote s w (change j a ∷ []) t t' 1
     wrote_one t some e =
-        let laid : laid_at s (new_place s w (change j a)) ≡ true = ap (laid_at s) (sym place_is) ∙ some_laid s p (λ z. some (section ∙ z)) in
+        let laid : laid_at s (new_place s w (change j a)) ≡ true = ap (laid_at s) (sym place_is) ∙ some_laid s p some in
         record { count = rw laid; bytes = rw laid (e ∙ ap (λ q. over (j ∷ a ∷ put_be 8 q) t) place_is) }
 
 -- a change down, and one up, is one change or none
@@ -83,4 +83,4 @@ module _ {s w : List ℕ} {cs : List Change} where
 
 -- a letter of the window is one of the strip's, so a byte
 pub letter_small : {x : DS.Strip} {w : List ℕ} → WordOn x w → (j : ℕ) → j < length w → (get_or w j 0 < x.k) × (x.k ≤ 36)
-letter_small {x} {w} word j inside = (marks_getD x.k w j inside word.marks, (limits word.shaped).most)
+letter_small {x} {w} word j inside = (marks_getD x.k w j inside word.marks, (limits x).most)

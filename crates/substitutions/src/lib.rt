@@ -23,7 +23,7 @@ fn put_change(plan: &[u8], s: Strip, w: &[u8], j: usize, a: u8, out: &mut [u8]) 
     buffers::copy(w, v);
     v[j] = a;
     let place = locator::place_of(s, v);
-    if plans::laying(plan, place) == 0 {
+    if plans::laying(plan, place).is_none() {
         return 0;
     }
     out[0] = j as u8;

@@ -13,13 +13,14 @@ use Rattle.buffers.proofs.Bytes.{over-length, over-whole}
 use Rattle.numbers.specs.Numbers.{put_be}
 use Rattle.shape.specs.Shapes.{WordOn}
 use Rattle.shape.proofs.Limits.{limits}
+use Rattle.plans.proofs.Laid.{laid_there, unlaid}
 use Rattle.substitutions.proofs.Changing.{two_bytes, changed_on_strip, new_place_small, wrote_not, wrote_one}
 use Rattle.substitutions.proofs.put_change.Goals.{After-copy, After-place_of-place, After-put64, Start}
 use Rattle.substitutions.proofs.put_change.Goals as goal
 
 -- a window has at most 60 letters
 short : (c : Start) → length c.args.w.now ≤ 60
-short c = omega (arith, c.requires.0.word.long, (limits c.requires.0.word.shaped).short)
+short c = omega (arith, c.requires.0.word.long, (limits c.args.s).short)
 
 pub slice_bounds-room-end : goal.slice_bounds-room-end
 slice_bounds-room-end c = short (goal.at.slice_bounds-room-end c).Start
@@ -49,9 +50,9 @@ pub laying-requires : goal.laying-requires
 laying-requires c =
     (c.requires.0.plan.faultless, omega (arith, (let p = goal.at.laying-requires c in place_is p.After-place_of-place (copied p.After-copy (short p.Start))), new_place_small c.requires.0.plan c.requires.0.word c.args.j c.requires.2))
 
-pub returns-then-laying-eq0 : goal.returns-then-laying-eq0
-returns-then-laying-eq0 c =
-    wrote_not c.requires.0.plan c.requires.0.word c.args.j c.requires.2 (let p = goal.at.returns-then-laying-eq0 c in place_is p.After-place_of-place (copied p.After-copy (short p.Start))) c.laying.ensures c.args.out.now c.if-laying-eq0.true
+pub returns-then-is_none : goal.returns-then-is_none
+returns-then-is_none c =
+    wrote_not c.requires.0.plan c.requires.0.word c.args.j c.requires.2 (let p = goal.at.returns-then-is_none c in place_is p.After-place_of-place (copied p.After-copy (short p.Start))) c.args.out.now (unlaid c.args.plan.now _ c.laying.result c.laying.ensures (sym c.if-is_none.true ∙ c.is_none.ensures))
 
 pub overflow_cast-out : goal.overflow_cast-out
 overflow_cast-out c = record { fits = omega (arith, c.requires.1, short (goal.at.overflow_cast-out c).Start) }
@@ -85,4 +86,4 @@ shape_of-out c =
 pub returns : goal.returns
 returns c =
     let a = c.args in
-    wrote_one c.requires.0.plan c.requires.0.word a.j c.requires.2 (let p = goal.at.returns c in place_is p.After-place_of-place (copied p.After-copy (short p.Start))) c.laying.ensures a.out.now c.if-laying-eq0.false (written (goal.at.returns c).After-put64)
+    wrote_one c.requires.0.plan c.requires.0.word a.j c.requires.2 (let p = goal.at.returns c in place_is p.After-place_of-place (copied p.After-copy (short p.Start))) a.out.now (laid_there a.plan.now _ c.laying.result c.laying.ensures (sym c.if-is_none.false ∙ c.is_none.ensures)) (written (goal.at.returns c).After-put64)
