@@ -5,7 +5,7 @@ use mathlib.Core.List.{List}
 use Prim.Native.Nat.{ℕ}
 use native.Mathlib.Omega.{arith}
 use Rattle.std.specs.Prelude.{Option, Some, None}
-use Rattle.std.specs.Option.{is_some, is_none}
+use Rattle.std.specs.Option.{is_some}
 use Rattle.theory.specs.Plans.{laying_at}
 use Rattle.plans.specs.Opened.{Lays}
 
@@ -16,11 +16,3 @@ laid_some s p (Some i) h e = λ z. omega (arith, h, z)
 pub laid_none : (s : List ℕ) (p : ℕ) (r : Option ℕ) → Lays s p r → false ≡ is_some r → laying_at s p ≡ 0
 laid_none s p None h e = h
 laid_none s p (Some i) h e = absurd (false≢true e)
-
-pub laid_there : (s : List ℕ) (p : ℕ) (r : Option ℕ) → Lays s p r → false ≡ is_none r → ¬ (laying_at s p ≡ 0)
-laid_there s p None h e = absurd (false≢true e)
-laid_there s p (Some i) h e = λ z. omega (arith, h, z)
-
-pub unlaid : (s : List ℕ) (p : ℕ) (r : Option ℕ) → Lays s p r → true ≡ is_none r → laying_at s p ≡ 0
-unlaid s p None h e = h
-unlaid s p (Some i) h e = absurd (false≢true (sym e))

@@ -1,5 +1,6 @@
 -- put_change: the window copied and changed, its place, and the entry if it is laid there.
 use mathlib.Core.Path.{◌≡◌, sym, ◌∙◌, ap, subst}
+use mathlib.Core.Bool.{not}
 use mathlib.Core.List.{List, ◌∷◌}
 use Prim.Native.Nat.{ℕ, ◌-◌, ◌≤◌}
 use native.Mathlib.Omega.{arith}
@@ -13,7 +14,7 @@ use Rattle.buffers.proofs.Bytes.{over-length, over-whole}
 use Rattle.numbers.specs.Numbers.{put_be}
 use Rattle.shape.specs.Shapes.{WordOn}
 use Rattle.shape.proofs.Limits.{limits}
-use Rattle.plans.proofs.Laid.{laid_there, unlaid}
+use Rattle.plans.proofs.Laid.{laid_some, laid_none}
 use Rattle.substitutions.proofs.Changing.{two_bytes, changed_on_strip, new_place_small, wrote_not, wrote_one}
 use Rattle.substitutions.proofs.put_change.Goals.{After-copy, After-place_of-place, After-put64, Start}
 use Rattle.substitutions.proofs.put_change.Goals as goal
@@ -52,7 +53,7 @@ laying-requires c =
 
 pub returns-then-is_none : goal.returns-then-is_none
 returns-then-is_none c =
-    wrote_not c.requires.0.plan c.requires.0.word c.args.j c.requires.2 (let p = goal.at.returns-then-is_none c in place_is p.After-place_of-place (copied p.After-copy (short p.Start))) c.args.out.now (unlaid c.args.plan.now _ c.laying.result c.laying.ensures (sym c.if-is_none.true ∙ c.is_none.ensures))
+    wrote_not c.requires.0.plan c.requires.0.word c.args.j c.requires.2 (let p = goal.at.returns-then-is_none c in place_is p.After-place_of-place (copied p.After-copy (short p.Start))) c.args.out.now (laid_none c.args.plan.now _ c.laying.result c.laying.ensures (sym (c.is_none.ensures ∙ ap not c.if-is_none.true)))
 
 pub overflow_cast-out : goal.overflow_cast-out
 overflow_cast-out c = record { fits = omega (arith, c.requires.1, short (goal.at.overflow_cast-out c).Start) }
@@ -86,4 +87,4 @@ shape_of-out c =
 pub returns : goal.returns
 returns c =
     let a = c.args in
-    wrote_one c.requires.0.plan c.requires.0.word a.j c.requires.2 (let p = goal.at.returns c in place_is p.After-place_of-place (copied p.After-copy (short p.Start))) a.out.now (laid_there a.plan.now _ c.laying.result c.laying.ensures (sym c.if-is_none.false ∙ c.is_none.ensures)) (written (goal.at.returns c).After-put64)
+    wrote_one c.requires.0.plan c.requires.0.word a.j c.requires.2 (let p = goal.at.returns c in place_is p.After-place_of-place (copied p.After-copy (short p.Start))) a.out.now (laid_some a.plan.now _ c.laying.result c.laying.ensures (sym (c.is_none.ensures ∙ ap not c.if-is_none.false))) (written (goal.at.returns c).After-put64)
