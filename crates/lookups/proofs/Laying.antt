@@ -7,30 +7,27 @@ use native.Mathlib.Omega.{arith}
 use Rattle.theory.specs.Plans.{sections, section_count, nth_s, laying_at, laid_at, distance_at, rail_of}
 use Rattle.theory.proofs.Laying.{some_laid, laid_at_lem}
 use Rattle.numbers.specs.Numbers.{put_be}
-use Rattle.windows.specs.declared.Spot as DP
-use Rattle.windows.proofs.Looking.{Found}
 use Rattle.lookups.specs.Says.{answer_at, LaidIn}
 
--- a window that was found
-pub laid_there : {s w : List ℕ} {x : DP.Spot} → Found s w x → LaidIn s x.place x.laying
-laid_there h = record { faultless = h.plan.faultless; section = h.section; some = h.some }
-
--- a window that is laid: its section, and the answer's bytes by the section's offset o and rail r
-module _ {s : List ℕ} {p l : ℕ} (h : LaidIn s p l) where
+-- a window that is laid: its section i, and the answer's bytes by the section's offset o and rail r
+module _ {s : List ℕ} {p i : ℕ} (h : LaidIn s p i) where
   laid : laid_at s p ≡ true
-  laid = some_laid s p (λ z. omega (arith, h.section, h.some))
+  laid = some_laid s p (λ z. omega (arith, h.laid, z))
 
-  pub section_inside : l - 1 < section_count s
-  section_inside = subst (λ i. i - 1 < section_count s) (sym h.section) (laid_at_lem s p h.faultless laid).0
+  section_is : i ≡ laying_at s p - 1
+  section_is = omega (arith, h.laid)
 
-  module _ {o : ℕ} (offset : o ≡ (nth_s (sections s) (l - 1)).offset) where
+  pub section_inside : i < section_count s
+  section_inside = omega (arith, section_is, (laid_at_lem s p h.faultless laid).0)
+
+  module _ {o : ℕ} (offset : o ≡ (nth_s (sections s) i).offset) where
     offset_is : o ≡ (nth_s (sections s) (laying_at s p - 1)).offset
-    offset_is = offset ∙ ap (λ i. (nth_s (sections s) (i - 1)).offset) h.section
+    offset_is = offset ∙ ap (λ i. (nth_s (sections s) i).offset) section_is
 
     pub starts_before : o ≤ p
     starts_before = omega (arith, offset_is, (laid_at_lem s p h.faultless laid).1)
 
-    pub bytes_are : {r : ℕ} → r ≡ rail_of s (l - 1) → (put_be 2 (l - 1) ++ put_be 8 (p - o)) ++ put_be 2 r ≡ answer_at s p
+    pub bytes_are : {r : ℕ} → r ≡ rail_of s i → (put_be 2 i ++ put_be 8 (p - o)) ++ put_be 2 r ≡ answer_at s p
     bytes_are {r} rail =
-        ap₂ (λ d r. (put_be 2 (l - 1) ++ put_be 8 d) ++ put_be 2 r) (ap (λ i. p - i) offset_is) rail
-        ∙ ap (λ i. (put_be 2 (i - 1) ++ put_be 8 (distance_at s p)) ++ put_be 2 (rail_of s (i - 1))) h.section
+        ap₂ (λ d r. (put_be 2 i ++ put_be 8 d) ++ put_be 2 r) (ap (λ x. p - x) offset_is) rail
+        ∙ ap (λ i. (put_be 2 i ++ put_be 8 (distance_at s p)) ++ put_be 2 (rail_of s i)) section_is

@@ -1,5 +1,5 @@
 -- What the calls on plans promise. A tray holds t at the call and t' at the return.
-use Rattle.std.specs.Prelude.{◌≡◌, List, [], ◌++◌, ℕ, ◌-◌, ◌≤◌, eqb}
+use Rattle.std.specs.Prelude.{◌≡◌, List, [], ◌++◌, ℕ, ◌+◌, ◌-◌, eqb}
 use Rattle.theory.specs.Words.{pick}
 use Rattle.theory.specs.Strips.{place_of}
 use Rattle.theory.specs.Plans.{shades, marks, plan_fault, laying_at, distance_at, rail_of, lookup_fault}
@@ -30,8 +30,7 @@ SmudgedSays s w t t' r =
     let f = smudged_fault s w in
     Into f (pick (eqb f 0) (answer_at s (lowest s w)) []) t t' r
 
--- what writing an answer asks for: the window at p is laid in section l − 1 of an accepted plan
-pub record LaidIn (s : List ℕ) (p l : ℕ) : Type 0 where
+-- what writing an answer asks for: the window at p is laid in section i of an accepted plan
+pub record LaidIn (s : List ℕ) (p i : ℕ) : Type 0 where
   pub faultless : plan_fault s ≡ 0
-  pub section : l ≡ laying_at s p
-  pub some : 1 ≤ l
+  pub laid : laying_at s p ≡ i + 1

@@ -1,9 +1,9 @@
 -- What the calls on misreadings promise. A tray holds t at the call and t' at the return; for C, c and c' are those of the number of entries.
-use Rattle.std.specs.Prelude.{List, [], ℕ, ◌*◌, eqb, length}
+use Rattle.std.specs.Prelude.{Result, List, [], ℕ, ◌*◌, eqb, length}
 use Rattle.theory.specs.Words.{pick}
 use Rattle.theory.specs.Plans.{lookup_fault}
 use Rattle.theory.specs.Substitutions.{misread}
-use Rattle.calls.specs.declared.Value as DV
+use Rattle.calls.specs.declared.refusal.Refusal.{Refusal}
 use Rattle.calls.specs.Answers.{IntoValue, IntoBoth}
 use Rattle.substitutions.specs.Entries.{list_bytes}
 
@@ -16,7 +16,7 @@ abbrev pub list_size : List ℕ → List ℕ → ℕ
 list_size s w = 10 * length (misread s w)
 
 -- the list into the tray, the number of its entries as the value
-abbrev pub MisreadingsSays : List ℕ → List ℕ → List ℕ → List ℕ → DV.Value → Type 0
+abbrev pub MisreadingsSays : List ℕ → List ℕ → List ℕ → List ℕ → Result ℕ Refusal → Type 0
 MisreadingsSays s w t t' r = let f = lookup_fault s w in IntoValue f (length (misread s w)) (pick (eqb f 0) (entries_of s w) []) t t' r
 
 -- the number of entries as 8 bytes into a tray of its own

@@ -21,10 +21,10 @@ abbrev front : ℕ → ℕ → List ℕ
 front number distance = put_be 2 number ++ put_be 8 distance
 
 -- these are written
-front-written : (c : After-put64) → put_mid 2 (length c.put16.new.out - 2) c.put16.new.out c.put64.new.out ≡ over (front (c.args.laying - 1) (c.args.place - c.section_at.result.offset)) c.args.tray.now
+front-written : (c : After-put64) → put_mid 2 (length c.put16.new.out - 2) c.put16.new.out c.put64.new.out ≡ over (front c.args.section (c.args.place - c.section_at.result.offset)) c.args.tray.now
 front-written c =
     let a = c.args in
-    handed_on (put_be 2 (a.laying - 1)) (put_be 8 (a.place - c.section_at.result.offset)) a.tray.now c.put16.new.out c.put64.new.out 2 (put-length 2 (a.laying - 1)) c.put16.ensures c.put64.ensures (omega arith)
+    handed_on (put_be 2 a.section) (put_be 8 (a.place - c.section_at.result.offset)) a.tray.now c.put16.new.out c.put64.new.out 2 (put-length 2 a.section) c.put16.ensures c.put64.ensures (omega arith)
 
 pub returns-then-tray-lt-ANSWER : goal.returns-then-tray-lt-ANSWER
 returns-then-tray-lt-ANSWER c = let a = c.args in into_small (answer_at a.plan.now a.place) a.tray.now refl (omega arith) refl refl
@@ -41,5 +41,5 @@ rail_of-requires c = ((plan_good c.args.plan.now c.requires.faultless).0, sectio
 pub returns : goal.returns
 returns c =
     into_answer (answer_at c.args.plan.now c.args.place) c.args.tray.now refl (omega arith) refl
-    (handed_on (front (c.args.laying - 1) (c.args.place - c.section_at.result.offset)) (put_be 2 c.rail_of.result) c.args.tray.now _ c.put16-2.new.out 10 refl (front-written (goal.at.returns c).After-put64) c.put16-2.ensures (omega arith)
+    (handed_on (front c.args.section (c.args.place - c.section_at.result.offset)) (put_be 2 c.rail_of.result) c.args.tray.now _ c.put16-2.new.out 10 refl (front-written (goal.at.returns c).After-put64) c.put16-2.ensures (omega arith)
     ∙ ap (λ b. over b c.args.tray.now) (bytes_are c.requires (ap (λ x. x.offset) c.section_at.ensures) c.rail_of.ensures))

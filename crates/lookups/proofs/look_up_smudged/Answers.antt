@@ -1,17 +1,25 @@
--- `look_up_smudged` opens the plan, and looks for a window that fits in one that is accepted; a refusal leaves the tray as it was.
-use Rattle.plans.proofs.Opening.{accepted, plan_fault_lem}
-use Rattle.lookups.proofs.Fitting.{smudged_refused}
+-- What fits is laid.
+use mathlib.Core.Path.{◌≡◌}
+use native.Mathlib.Omega.{arith}
+use lib.ListN.{length}
+use Rattle.std.specs.Prelude.{Some}
+use Rattle.std.proofs.lemmas.Option.{MatchOption-at_some}
+use Rattle.theory.specs.Erasures.{fitting, lowest}
+use Rattle.lookups.proofs.Fitting.{place_small, there}
+use Rattle.lookups.proofs.look_up_smudged.Goals.{In_ok-place}
 use Rattle.lookups.proofs.look_up_smudged.Goals as goal
 
-pub fit_in-requires : goal.fit_in-requires
-fit_in-requires c =
-    accepted c.args.plan.now c.open.ensures c.in-Strip.is
+-- the place that was found
+found : (c : In_ok-place) → let s = c.args.plan.now in let w = c.args.window.now in ¬ (length (fitting s w) ≡ 0) × (c.in_ok-place.place ≡ lowest s w)
+found c =
+    let is : c.find.result ≡ Some c.in_ok-place.place = grind arith in
+    MatchOption-at_some _ _ _ is c.find.ensures
 
-pub returns-in-Refused : goal.returns-in-Refused
-returns-in-Refused c =
-    let a = c.args in
-    let (is, some) = plan_fault_lem a.plan.now _ c.open.ensures c.in-Refused.is in
-    smudged_refused a.plan.now a.window.now a.tray.now is some
+pub laying-requires : goal.laying-requires
+laying-requires c =
+    let plan = c.in_ok-strip.ensures.accepted in
+    (plan.faultless, place_small plan c.args.window.now (found (goal.at.laying-requires c).In_ok-place))
 
-pub returns-in-Strip : goal.returns-in-Strip
-returns-in-Strip c = c.fit_in.ensures
+pub unwrap-section-requires : goal.unwrap-section-requires
+unwrap-section-requires c =
+    there c.in_ok-strip.ensures.accepted c.args.window.now (found (goal.at.unwrap-section-requires c).In_ok-place) c.laying.result c.laying.ensures
