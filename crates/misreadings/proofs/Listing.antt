@@ -11,7 +11,7 @@ use Rattle.buffers.specs.Buffers.{over}
 use Rattle.substitutions.specs.Entries.{list_bytes, Writes, Wrote}
 use Rattle.substitutions.proofs.Writing.{entries_long, front_few, front-size}
 use Rattle.windows.specs.declared.Spot as DP
-use Rattle.windows.proofs.Looking.{Found}
+use Rattle.windows.specs.Looks.{Found}
 use Rattle.misreadings.specs.Says.{entries_of}
 
 module _ {s w : List ℕ} {x : DP.Spot} (h : Found s w x) where
@@ -19,7 +19,7 @@ module _ {s w : List ℕ} {x : DP.Spot} (h : Found s w x) where
   few =
       let many = changes_many x.strip.k w h.word.marks in
       let long : length w * (x.strip.k - 1) ≡ x.strip.n * (x.strip.k - 1) = ap (λ n. n * (x.strip.k - 1)) h.word.long in
-      omega (arith, many, long, most x.strip.k x.strip.n h.plan.shaped.admit)
+      omega (arith, many, long, most x.strip.k x.strip.n x.strip.admit)
 
   pub asked : (t : List ℕ) → length t ≡ 3850 → Writes s x.strip w (changes x.strip.k w) t
   asked t e = record { plan = h.plan; word = h.word; room = omega (arith, few) }

@@ -26,7 +26,12 @@ pub fn misreadings(plan: &[u8], window: &[u8], tray: &mut [u8]) -> Result<u64, R
 }
 
 // The same with the number of entries as 8 bytes in a tray of its own.
-pub fn misreadings_of(plan: &[u8], window: &[u8], count: &mut [u8], tray: &mut [u8]) -> Result<(), Refusal>
+pub fn misreadings_of(
+    plan: &[u8],
+    window: &[u8],
+    count: &mut [u8],
+    tray: &mut [u8],
+) -> Result<(), Refusal>
     ensures { MisreadingListSays plan.now window.now count.old count.new tray.old tray.new (number_of result) }
 {
     if count.len() < calls::NUMBER {
