@@ -39,12 +39,10 @@ pub fn put_letters(word: &[u8], out: &mut [u8], at: usize) -> usize
     requires { (at + length word.now ≤ length out.old) × (marks_ok 36 word.now ≡ true) }
     ensures { Adds out.old at (glyphs word.now) out.new result }
 {
-    let mut i = 0;
-    while i < word.len() {
-        out[at + i] = digit(word[i]);
-        i += 1;
+    for (i, letter) in word.iter().enumerate() {
+        out[at + i] = digit(*letter);
     }
-    at + i
+    at + word.len()
 }
 
 // Bytes as they are.
@@ -52,12 +50,9 @@ pub fn put_bytes(bytes: &[u8], out: &mut [u8], at: usize) -> usize
     requires { at + length bytes.now ≤ length out.old }
     ensures { Adds out.old at bytes.now out.new result }
 {
-    let mut i = 0;
-    while i < bytes.len() {
-        out[at + i] = bytes[i];
-        i += 1;
-    }
-    at + i
+    let end = at + bytes.len();
+    out[at..end].copy_from_slice(bytes);
+    end
 }
 
 // A number in decimal and one byte behind it.
@@ -77,7 +72,7 @@ pub fn put_signed(v: i64, behind: u8, out: &mut [u8], at: usize) -> usize
 {
     if v < 0 {
         out[at] = b'-';
-        return put_number((0 - v) as u64, behind, out, at + 1);
+        return put_number(v.unsigned_abs(), behind, out, at + 1);
     }
-    put_number(v as u64, behind, out, at)
+    put_number(v.unsigned_abs(), behind, out, at)
 }
