@@ -56,9 +56,6 @@ module _ {s : DS.Strip} (h : Shaped s) (ten : s.k ≤ 10) (p c : ℕ) where
         let whole : length put ≡ length out = same_len_mid (length out - c) (length out - (length out - c)) out last (ap length e ∙ letters-length (s.k ^ s.n) (strip s.k s.n) p _) in
         (whole ∙ fits ∙ sym (ap (λ r. length (row_text r)) behind ∙ row-length s.k s.n p c some), subst (λ r. marks_ok 10 r ≡ true) (sym behind) digits)
 
-    pub row_drawn : {x : List ℕ} → x ≡ row_text (drop (length out - c) put) → x ≡ row_text marks
-    row_drawn g = g ∙ ap row_text behind
-
 -- any two parts: where they end
 module _ {head row : List ℕ} {rows : ℕ} {b t : List ℕ} {r : DP.Parts} (q : Parted head row rows b t r) where
   pub seam_before : r.head ≤ r.end
@@ -74,10 +71,6 @@ module _ {s : DS.Strip} {p c h : ℕ} (d : Drawable s p c h) where
 
   long : length row ≡ row_size c
   long = row-length s.k s.n p c d.frame.some
-
-  -- where the file fits, so do its head and one row
-  pub one_fits : {m : ℕ} → file_size c h ≤ m → length (head_text c h) + row_size c ≤ m
-  one_fits g = omega (arith, g, le-mul_of_pos_right (row_size c) d.frame.row, mul_comm (row_size c) h)
 
   pub both_parts : {b T x : List ℕ} {e r : ℕ} → Adds b 0 (head_text c h) T e → length T ≡ length b → length (head_text c h) + row_size c ≤ length b → r ≡ row_size c → x ≡ row
       → Parted (head_text c h) row h b (put_mid e (e + r - e) T x) (record { head = e; end = e + r; rows = h })

@@ -1,6 +1,6 @@
 -- Marks at the end of a buffer, spread out over all of it as a row: `at` bytes of the row are written, the marks before i are read. What is written never
 -- reaches a mark that is not read yet, since each of them has its byte in the rest of the row and its last line has byte 10.
-use mathlib.Core.Path.{◌≡◌, refl, sym, ◌∙◌, ap, ap₂, subst}
+use mathlib.Core.Path.{◌≡◌, sym, ◌∙◌, ap, ap₂, subst}
 use mathlib.Core.Bool.{true}
 use mathlib.Core.List.{List, [], ◌∷◌, ◌++◌, append_assoc}
 use Prim.Native.Nat.{ℕ, suc, ◌+◌, ◌-◌, ◌%◌, ◌≤◌, ◌<◌}
@@ -27,9 +27,6 @@ pub record Spread (out₀ : List ℕ) (lead : ℕ) (out : List ℕ) (at i : ℕ)
   pub letters : marks_ok 10 (drop i out₀) ≡ true
   pub text : take at out ++ rest out₀ at i ≡ row_text (drop lead out₀)
   pub ends : at + length (rest out₀ at i) ≡ length out₀
-
-pub spread_none : (out : List ℕ) (lead : ℕ) → length out ≡ length (row_text (drop lead out)) → marks_ok 10 (drop lead out) ≡ true → Spread out lead out 0 lead
-spread_none out lead h ok = record { size = refl; unread = refl; letters = ok; text = refl; ends = omega (arith, h) }
 
 module _ {out₀ : List ℕ} {lead : ℕ} {out : List ℕ} {at i : ℕ} (s : Spread out₀ lead out at i) where
   -- one byte more of the row
@@ -67,7 +64,7 @@ module _ {out₀ : List ℕ} {lead : ℕ} {out : List ℕ} {at i : ℕ} (s : Spr
     mark : get_or out i 0 ≡ get_or out₀ i 0
     mark = ap (λ x. get_or out x 0) (sym (add-zero i)) ∙ sym (get_or-drop i out 0 0) ∙ ap (λ x. get_or x 0 0) (s.unread ∙ next)
 
-    pub small : get_or out i 0 < 10
+    small : get_or out i 0 < 10
     small = omega (arith, mark, marks_head 10 (get_or out₀ i 0) (drop (suc i) out₀) marks)
 
     pub spread_mark : at % 71 < 70 → Spread out₀ lead (set out at (48 + get_or out i 0)) (at + 1) (i + 1)
@@ -85,7 +82,7 @@ module _ {out₀ : List ℕ} {lead : ℕ} {out : List ℕ} {at i : ℕ} (s : Spr
     last : rest out₀ at i ≡ 10 ∷ []
     last = ap (λ x. broken (70 - at % 71) (glyphs x)) (drop_of_length-le out₀ {i = i} done)
 
-    pub spread_end : at + 1 ≡ length out
+    spread_end : at + 1 ≡ length out
     spread_end = omega (arith, s.ends, s.size, ap length last)
 
     pub spread_all : set out at 10 ≡ row_text (drop lead out₀)

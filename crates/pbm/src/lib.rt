@@ -44,15 +44,13 @@ fn spread(out: &mut [u8], lead: usize)
     ensures { out.new ≡ row_text (drop lead out.old) }
 {
     let mut at = 0;
-    let mut i = lead;
-    while i < out.len() {
+    for i in lead..out.len() {
         if at % (LINE + 1) == LINE {
             out[at] = b'\n';
             at += 1;
         }
         out[at] = b'0' + out[i];
         at += 1;
-        i += 1;
     }
     out[at] = b'\n';
 }
@@ -72,8 +70,7 @@ fn row_size(width: u64) -> u64
     requires { width ≤ 60000 }
     ensures { result ≡ row_size width }
 {
-    let line = LINE as u64;
-    width + (width + line - 1) / line
+    width + width.div_ceil(LINE as u64)
 }
 
 // How many bytes the file has.

@@ -1,11 +1,7 @@
 -- `put_row` lets the marks be written to the buffer's end, and spreads them.
-use Rattle.pbm.proofs.Drawing.{row_fits, row_drawn}
+use Rattle.pbm.proofs.Drawing.{row_fits}
 use Rattle.pbm.proofs.put_row.Goals as goal
 
 pub spread-requires : goal.spread-requires
 spread-requires c =
     row_fits c.requires.0 c.requires.1 c.args.place c.args.width c.requires.3 c.args.out.now c.requires.4 c.letters.ensures
-
-pub returns : goal.returns
-returns c =
-    row_drawn c.requires.0 c.requires.1 c.args.place c.args.width c.requires.3 c.args.out.now c.requires.4 c.letters.ensures c.spread.ensures

@@ -1,11 +1,6 @@
 -- `spread` writes a row over marks that stand at the buffer's end. Invariant: `Spread`, so what is written ends before the next mark.
-use Prim.Native.Nat.{◌-◌}
-use lib.ListN.{length}
 use Rattle.pbm.proofs.Spreading.{Spread}
 use Rattle.pbm.proofs.spread.Given as goal
 
 abbrev pub invariant-loop-i : goal.invariant-loop-i
 invariant-loop-i l = Spread l.initial.out l.lead l.out l.at l.i
-
-abbrev pub decreases-loop-i : goal.decreases-loop-i
-decreases-loop-i l = length l.initial.out - l.i

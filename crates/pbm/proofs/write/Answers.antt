@@ -1,13 +1,7 @@
 -- `write` puts the head and one row, and repeats the row up to the file's end.
 use native.Mathlib.Omega.{arith}
-use Rattle.pbm.proofs.Drawing.{one_fits, seam_before, rows_small, ends_there, end_fits, row-lent, file_drawn}
+use Rattle.pbm.proofs.Drawing.{rows_small, ends_there, end_fits, row-lent, file_drawn}
 use Rattle.pbm.proofs.write.Goals as goal
-
-pub begin-parts-requires : goal.begin-parts-requires
-begin-parts-requires c = (c.requires.0, one_fits c.requires.0 c.requires.1)
-
-pub overflow_sub-row : goal.overflow_sub-row
-overflow_sub-row c = seam_before c.begin-parts.ensures
 
 pub overflow_mul-total : goal.overflow_mul-total
 overflow_mul-total c = omega (arith, rows_small c.requires.0 c.begin-parts.ensures)
