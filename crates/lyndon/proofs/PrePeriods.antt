@@ -90,9 +90,6 @@ pre_period_pre w h = lyndon_extends_pre (pre_period_is w h).lyndon (pre_period_i
 pub pre_period-none : (w : List ℕ) → ¬ Prenecklace w → pre_period w ≡ 0
 pre_period-none w n = elim (cmp 0 (pre_period w)) [ less h ↦ absurd (n (pre_period_pre w h)) | equal h ↦ sym h | more h ↦ absurd (omega arith) ]
 
-pub pre_period-empty : (w : List ℕ) → length w ≡ 0 → pre_period w ≡ 0
-pre_period-empty w h = ap pre_period (nil_of w h)
-
 -- the word is a Lyndon word if that is its length
 pub lyndon_by_period : (w : List ℕ) → 0 < length w → eqb (pre_period w) (length w) ≡ is_lyndon w
 lyndon_by_period w h = same_test (eqb (pre_period w) (length w)) (is_lyndon w) into out

@@ -1,60 +1,21 @@
 -- The shortest root of a word, found by trying the divisors of its length in turn: d is a root if the word goes on as it began, d letters later.
 use mathlib.Core.Path.{◌≡◌, sym, ◌∙◌, ap, ap₂, subst}
-use mathlib.Core.Bool.{Bool, true, false}
-use mathlib.Core.List.{List, [], ◌∷◌}
-use Prim.Native.Nat.{ℕ, zero, suc, ◌+◌, ◌-◌, ◌%◌, ◌≤◌, ◌<◌}
+use mathlib.Core.Bool.{Bool, true, false, ◌&&◌}
+use mathlib.Core.List.{List}
+use mathlib.Core.Logic.{inl, inr}
+use Prim.Native.Nat.{ℕ, zero, suc, ◌+◌, ◌-◌, ◌%◌, ◌≤◌, ◌<◌, max}
 use native.Mathlib.Omega.{arith}
-use native.Mathlib.Numerals.{add-one}
-use lib.ListN.{length, get_or, take, drop, length-append, length-drop}
-use lib.Seq.{length-take-le, take-append_seam, drop-append_seam, get_or-take, get_or-drop}
-use borrow.Author.Tests.{le-leb, ne_eqb}
+use lib.Dec.{eqb}
+use lib.ListN.{length, take, drop, length-append}
+use lib.Seq.{length-take-le, take-append_seam, drop-append_seam}
+use borrow.Author.Tests.{le-leb, eqb-true}
+use Rattle.std.proofs.Common.{Option, Some, None}
+use Rattle.std.specs.Option.{MatchOption, unwrap_or}
 use Rattle.theory.specs.Words.{same, repeated, is_root, root_from, root}
-use Rattle.theory.proofs.Base.{same_test}
+use Rattle.theory.proofs.Base.{test, same_test, cmp, less, equal, more}
 use Rattle.theory.proofs.Order.{same_eq, eq_same}
 use Rattle.theory.proofs.Powers.{repeated_snoc, Root, is_root_lem, root_in, root_out, whole-root}
-use Rattle.lyndon.proofs.Scans.{same_differ, same_on, same_end}
 use Rattle.lyndon.proofs.Periods.{period_extends, whole_powers, powers}
-
--- the word from i on, against its letters from i − d on
-abbrev pub again_from : ℕ → List ℕ → ℕ → Bool
-again_from d w i = same (drop (i - d) (drop d w)) (drop (i - d) (take (length w - d) w))
-
-module _ (d : ℕ) (w : List ℕ) (fits : d ≤ length w) where
-  right_size : length (take (length w - d) w) ≡ length w - d
-  right_size = length-take-le (length w - d) w (omega arith)
-
-  pub again_start : same (drop d w) (take (length w - d) w) ≡ again_from d w d
-  again_start =
-      let none : d - d ≡ 0 = omega arith in
-      sym (ap (λ r. same (drop r (drop d w)) (drop r (take (length w - d) w))) none)
-
-  pub again_end : (i : ℕ) → length w ≤ i → again_from d w i ≡ true
-  again_end i h = same_end (drop d w) (take (length w - d) w) (i - d) (omega (arith, length-drop d w)) (omega (arith, right_size))
-
-  module _ (i : ℕ) (after : d ≤ i) (inside : i < length w) where
-    left_letter : get_or (drop d w) (i - d) 0 ≡ get_or w i 0
-    left_letter =
-        let n : d + (i - d) ≡ i = omega arith in
-        get_or-drop d w (i - d) 0 ∙ ap (λ r. get_or w r 0) n
-
-    right_letter : get_or (take (length w - d) w) (i - d) 0 ≡ get_or w (i - d) 0
-    right_letter = get_or-take (length w - d) w (i - d) 0 (omega arith)
-
-    left_inside : i - d < length (drop d w)
-    left_inside = omega (arith, length-drop d w)
-
-    right_inside : i - d < length (take (length w - d) w)
-    right_inside = omega (arith, right_size)
-
-    pub again_differ : ¬ (get_or w i 0 ≡ get_or w (i - d) 0) → again_from d w i ≡ false
-    again_differ n =
-        same_differ (drop d w) (take (length w - d) w) (i - d) left_inside right_inside (λ e. n (sym left_letter ∙ e ∙ right_letter))
-
-    pub again_on : get_or w i 0 ≡ get_or w (i - d) 0 → again_from d w i ≡ again_from d w (i + 1)
-    again_on e =
-        let n : i - d + 1 ≡ i + 1 - d = omega arith in
-        same_on (drop d w) (take (length w - d) w) (i - d) left_inside right_inside (left_letter ∙ e ∙ sym right_letter)
-        ∙ ap (λ r. same (drop r (drop d w)) (drop r (take (length w - d) w))) n
 
 -- a divisor is a root if the word goes on so
 pub root_again : (d : ℕ) (w : List ℕ) → 1 ≤ d → d ≤ length w → length w % d ≡ 0 → same (drop d w) (take (length w - d) w) ≡ is_root d w
@@ -78,29 +39,34 @@ root_again d w h g m = same_test (same (drop d w) (take (length w - d) w)) (is_r
             ap₂ drop (sym n) f ∙ drop-append_seam t (repeated e t)
             ∙ sym (ap₂ take rest (f ∙ sym (repeated_snoc e t)) ∙ take-append_seam (repeated e t) t)
 
-pub root_divides_not : (d : ℕ) (w : List ℕ) → 1 ≤ d → ¬ (length w % d ≡ 0) → is_root d w ≡ false
-root_divides_not d w h n = rw (le-leb 1 d h, ne_eqb (length w % d) 0 n)
+-- the trial of a number below the length
+abbrev pub trial : ℕ → List ℕ → Bool
+trial d w = eqb (length w % d) 0 && same (drop d w) (take (length w - d) w)
 
--- the roots tried from d on
-pub root_start : (w : List ℕ) → root w ≡ root_from (length w + 1 - 1) 1 w
-root_start w =
-    let n : length w ≡ length w + 1 - 1 = omega arith in
-    ap (λ l. root_from l 1 w) n
+trial_is : (d : ℕ) (w : List ℕ) → 1 ≤ d → d ≤ length w → trial d w ≡ is_root d w
+trial_is d w h g = elim (test (eqb (length w % d) 0)) [
+  | inl t ↦ ap (λ r. r && same (drop d w) (take (length w - d) w)) t ∙ root_again d w h g (eqb-true (length w % d) 0 t)
+  | inr t ↦ rw (t, le-leb 1 d h)
+]
 
-pub root-found : (d : ℕ) (w : List ℕ) → d ≤ length w → is_root d w ≡ true → root_from (length w + 1 - d) d w ≡ d
-root-found d w h t =
-    let n : length w + 1 - d ≡ suc (length w - d) = omega arith in
-    rw (n, t, root_from)
+-- the first root from d on
+root_first : (l d i : ℕ) (w : List ℕ) → d ≤ i → i ≤ d + l → ((k : ℕ) → d ≤ k → k < i → is_root k w ≡ false) → (i < d + l → is_root i w ≡ true) → root_from l d w ≡ i
+root_first zero d i w h g none some = omega arith
+root_first (suc l) d i w h g none some = elim (cmp d i) [
+  | less e ↦ rw (none d (omega arith) e, root_from) (root_first l (suc d) i w e (omega arith) (λ k p q. none k (omega arith) q) (λ p. some (omega arith)))
+  | equal e ↦ rw (subst (λ r. is_root r w ≡ true) (sym e) (some (omega arith)), root_from) e
+  | more e ↦ absurd (omega arith)
+]
 
-pub root_on : (d : ℕ) (w : List ℕ) → d ≤ length w → is_root d w ≡ false → root_from (length w + 1 - d) d w ≡ root_from (length w + 1 - (d + 1)) (d + 1) w
-root_on d w h t =
-    let n : length w + 1 - d ≡ suc (length w + 1 - (d + 1)) = omega arith in
-    rw (n, t, root_from, add-one d)
-
-pub root-end : (d : ℕ) (w : List ℕ) → d ≡ 1 + (length w - 1) → root_from (length w + 1 - d) d w ≡ d
-root-end d [] e =
-    let n : 0 + 1 - d ≡ 0 = omega arith in
-    rw n
-root-end d (a ∷ w) e =
-    let n : length (a ∷ w) ≡ d = omega arith in
-    root-found d (a ∷ w) (omega arith) (subst (λ r. is_root r (a ∷ w) ≡ true) n (root_out (omega arith) (whole-root (a ∷ w) (omega arith))))
+pub root_tried : (w : List ℕ) (r : Option ℕ) (m : ℕ) → m ≡ max (length w) 1
+    → MatchOption r ((k : ℕ) → 1 ≤ k → k < length w → trial k w ≡ false) (λ i. (1 ≤ i) × (i < length w) × (trial i w ≡ true) × ((k : ℕ) → 1 ≤ k → k < i → trial k w ≡ false))
+    → unwrap_or r m ≡ root w
+root_tried w (Some i) m e (some, inside, is, none) =
+    sym (root_first (length w) 1 i w some (omega arith) (λ k p q. sym (trial_is k w p (omega arith)) ∙ none k p q) (λ p. sym (trial_is i w some (omega arith)) ∙ is))
+root_tried w None m e none =
+    sym (root_first (length w) 1 m w (omega arith) (omega arith) (λ k p q. sym (trial_is k w p (omega arith)) ∙ none k p (omega arith)) whole)
+  where
+    whole : m < 1 + length w → is_root m w ≡ true
+    whole p =
+        let n : length w ≡ m = omega arith in
+        subst (λ r. is_root r w ≡ true) n (root_out (omega arith) (whole-root w (omega arith)))

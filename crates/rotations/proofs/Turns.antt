@@ -1,24 +1,21 @@
 -- Rotations, letter by letter; the least turn, one turn after another.
-use mathlib.Core.Path.{◌≡◌, refl, sym, ◌∙◌, ap}
+use mathlib.Core.Path.{◌≡◌, sym, ◌∙◌, ap}
 use mathlib.Core.Bool.{true, false}
 use mathlib.Core.List.{List}
 use mathlib.Core.Logic.{◌⊎◌, inl, inr}
-use Prim.Native.Nat.{ℕ, suc, ◌+◌, ◌-◌, ◌≤◌, ◌<◌}
+use Prim.Native.Nat.{ℕ, suc, ◌+◌, ◌-◌, ◌<◌}
 use native.Mathlib.Omega.{arith}
 use native.Mathlib.Numerals.{add-one}
 use lib.ListN.{length, get_or, take, drop, length-drop, get_or-append}
 use lib.Seq.{get_or-take, get_or-drop, get_or-append-add}
 use Rattle.theory.specs.Words.{pick, below, turned, turn_from}
-use Rattle.theory.proofs.Turns.{turned-length}
-use Rattle.lyndon.proofs.Scans.{below_less, below_more, below_on, below_end}
+use Rattle.theory.proofs.Turns.{turned-length, turn_fits, least_turn-smallest}
+use Rattle.lyndon.proofs.Scans.{below_less, below_more, below_on}
 
 -- the place x, in a word of n letters, of the letter j of its rotation by i
 pub record Place (n i j x : ℕ) : Type 0 where
   pub inside : x < n
   pub counted : (x ≡ i + j) ⊎ (x + n ≡ i + j)
-
-pub place_start : (n i : ℕ) → i < n → Place n i 0 i
-place_start n i h = record { inside = h; counted = inl (omega arith) }
 
 -- the next place: one on, or back at the start
 pub place_on_lem : {n i j x y : ℕ} → ¬ (x + 1 ≡ n) → y ≡ x + 1 → Place n i j x → Place n i (j + 1) y
@@ -44,36 +41,17 @@ place_letter w i j x h l p = elim p.counted [ inl e ↦ first e | inr e ↦ roun
         ap (λ r. get_or (turned i w) r 0) beyond ∙ get_or-append-add (drop i w) (take i w) x 0 ∙ get_or-take i w x 0 within
 
 -- the least turn, one turn after another
-turn_step : (w : List ℕ) (i b : ℕ) → i < length w
+pub turn_step : (w : List ℕ) (i b : ℕ) → i < length w
     → turn_from (length w - i) i w b ≡ turn_from (length w - (i + 1)) (i + 1) w (pick (below (turned i w) (turned b w)) i b)
 turn_step w i b h =
     let n : length w - i ≡ suc (length w - (i + 1)) = omega arith in
     rw (n, add-one i)
-
-pub turn_better : (w : List ℕ) (i b c : ℕ) → i < length w → below (turned i w) (turned b w) ≡ true → c ≡ i
-    → turn_from (length w - i) i w b ≡ turn_from (length w - (i + 1)) (i + 1) w c
-turn_better w i b c h t e =
-    turn_step w i b h ∙ ap (turn_from (length w - (i + 1)) (i + 1) w) (ap (λ r. pick r i b) t ∙ sym e)
-
-pub turn_worse : (w : List ℕ) (i b c : ℕ) → i < length w → below (turned i w) (turned b w) ≡ false → c ≡ b
-    → turn_from (length w - i) i w b ≡ turn_from (length w - (i + 1)) (i + 1) w c
-turn_worse w i b c h t e =
-    turn_step w i b h ∙ ap (turn_from (length w - (i + 1)) (i + 1) w) (ap (λ r. pick r i b) t ∙ sym e)
-
-pub turn_end : (w : List ℕ) (i b : ℕ) → length w ≤ i → turn_from (length w - i) i w b ≡ b
-turn_end w i b h =
-    let n : length w - i ≡ 0 = omega arith in
-    rw n
 
 -- two rotations compared: their first j letters agree, and the next ones stand at x and y
 pub record Turning (w : List ℕ) (i b j x y : ℕ) : Type 0 where
   pub left : Place (length w) i j x
   pub right : Place (length w) b j y
   pub so_far : below (turned i w) (turned b w) ≡ below (drop j (turned i w)) (drop j (turned b w))
-
-pub turning_start : (w : List ℕ) (i b : ℕ) → i < length w → b < length w → Turning w i b 0 i b
-turning_start w i b h g =
-    record { left = place_start (length w) i h; right = place_start (length w) b g; so_far = refl }
 
 module _ (w : List ℕ) (i b j x y : ℕ) (left-turn : i < length w) (right-turn : b < length w) (inside : j < length w) (at : Turning w i b j x y) where
   left_inside : j < length (turned i w)
@@ -103,6 +81,5 @@ module _ (w : List ℕ) (i b j x y : ℕ) (left-turn : i < length w) (right-turn
     so_far = at.so_far ∙ below_on (turned i w) (turned b w) j left_inside right_inside (left_letter ∙ e ∙ sym right_letter);
   }
 
-pub turning_end : (w : List ℕ) (i b j x y : ℕ) → i < length w → b < length w → length w ≤ j → Turning w i b j x y → below (turned i w) (turned b w) ≡ false
-turning_end w i b j x y h g l at =
-    at.so_far ∙ below_end (turned i w) (turned b w) j (omega (arith, turned-length i w (omega arith))) (omega (arith, turned-length b w (omega arith)))
+-- the word turned by the least turn
+pub ruleset smallest_laws = (turn_fits, least_turn-smallest)

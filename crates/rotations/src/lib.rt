@@ -6,22 +6,21 @@ ghost use Rattle.theory.specs.Words.{same, below, turned, root, smallest, least_
 ghost use Rattle.buffers.specs.Buffers.{over};
 
 // Is the rotation by i below the rotation by b? It leaves at the first differing letter.
+#[tactic(auto, using(crate::proofs::Turns::turning_less, crate::proofs::Turns::turning_more))]
 fn turn_below(w: &[u8], i: usize, b: usize) -> bool
     requires { (i < length w.now) × (b < length w.now) }
     ensures { result ≡ below (turned i w.now) (turned b w.now) }
 {
     let n = w.len();
-    let mut j = 0;
     let mut x = i;
     let mut y = b;
-    while j < n {
+    for _ in 0..n {
         if w[x] < w[y] {
             return true;
         }
         if w[y] < w[x] {
             return false;
         }
-        j += 1;
         x += 1;
         if x == n {
             x = 0;
@@ -35,21 +34,21 @@ fn turn_below(w: &[u8], i: usize, b: usize) -> bool
 }
 
 // The least turn that gives the smallest rotation.
+#[tactic(auto, using(crate::proofs::Turns::turn_step))]
 pub fn least_turn(w: &[u8]) -> usize
     ensures { result ≡ least_turn w.now }
 {
     let mut b = 0;
-    let mut i = 1;
-    while i < w.len() {
+    for i in 1..w.len() {
         if turn_below(w, i, b) {
             b = i;
         }
-        i += 1;
     }
     b
 }
 
 // The smallest rotation, over the start of a buffer, and the least turn that gives it.
+#[tactic(auto, using(crate::proofs::Turns::smallest_laws))]
 pub fn smallest(w: &[u8], out: &mut [u8]) -> usize
     requires { length w.now ≤ length out.old }
     ensures { (result ≡ least_turn w.now) × (out.new ≡ over (smallest w.now) out.old) }
@@ -60,33 +59,20 @@ pub fn smallest(w: &[u8], out: &mut [u8]) -> usize
 }
 
 // Does w go on as it began, d letters later?
+#[tactic(auto, using(std::proofs::lemmas::Grind::common_steps, lyndon::proofs::Scans::same_pointwise))]
 fn is_period(w: &[u8], d: usize) -> bool
     requires { d ≤ length w.now }
     ensures { result ≡ same (drop d w.now) (take (length w.now - d) w.now) }
 {
-    let mut i = d;
-    while i < w.len() {
-        if w[i] != w[i - d] {
-            return false;
-        }
-        i += 1;
-    }
-    true
+    w[d..] == w[..w.len() - d]
 }
 
-// The length of the shortest word that, repeated, gives w.
+// The length of the shortest word that, repeated, gives w; 1 if w is empty.
 pub fn shortest_root(w: &[u8]) -> usize
     ensures { result ≡ root w.now }
 {
     let n = w.len();
-    let mut d = 1;
-    while d < n {
-        if n % d == 0 {
-            if is_period(w, d) {
-                return d;
-            }
-        }
-        d += 1;
-    }
-    d
+    (1..n)
+        .find(|&d| n % d == 0 && is_period(w, d))
+        .unwrap_or(n.max(1))
 }

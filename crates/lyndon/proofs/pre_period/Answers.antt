@@ -3,12 +3,9 @@ use mathlib.Core.Path.{◌≡◌, sym, subst}
 use native.Mathlib.Omega.{arith}
 use lib.ListN.{length, get_or}
 use Rattle.std.proofs.lemmas.Bool.Decides.{nat_tests}
-use Rattle.lyndon.proofs.PrePeriods.{Periodic, pre_period-empty, periodic_start, periodic_keep, periodic_raise, periodic_fall, periodic_end}
+use Rattle.lyndon.proofs.PrePeriods.{Periodic, periodic_start, periodic_keep, periodic_raise, periodic_fall, periodic_end}
 use Rattle.lyndon.proofs.pre_period.Goals as goal
 use Rattle.lyndon.proofs.pre_period.Goals.{then-b-a, else-b-a}
-
-pub returns-then-is_empty : goal.returns-then-is_empty
-returns-then-is_empty c = sym (pre_period-empty c.args.w.now (grind (arith, nat_tests)))
 
 pub loop-i-init : goal.loop-i-init
 loop-i-init c =

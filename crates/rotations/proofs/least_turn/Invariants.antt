@@ -7,6 +7,3 @@ use Rattle.rotations.proofs.least_turn.Given as goal
 
 abbrev pub invariant-loop-i : goal.invariant-loop-i
 invariant-loop-i l = (l.b < l.i) × (least_turn l.w ≡ turn_from (length l.w - l.i) l.i l.w l.b)
-
-abbrev pub decreases-loop-i : goal.decreases-loop-i
-decreases-loop-i l = length l.w - l.i
