@@ -1,6 +1,6 @@
 -- The largest necklace below a word, looked for from the last letter on: the letter lowered, the largest letter after it.
 use mathlib.Core.Path.{◌≡◌, sym, ◌∙◌, ap, ap₂, subst}
-use mathlib.Core.Bool.{Bool, true, false, ◌&&◌, false≢true}
+use mathlib.Core.Bool.{true, false, ◌&&◌, false≢true}
 use mathlib.Core.List.{List, [], ◌∷◌, ◌++◌}
 use mathlib.Core.Logic.{inl, inr}
 use Prim.Native.Nat.{ℕ, suc, ◌-◌, ◌≤◌, ◌<◌}
@@ -80,5 +80,5 @@ pub not_necklace_lowerable : {k : ℕ} {w : List ℕ} → Lettered k w → is_ne
 not_necklace_lowerable {k} {w} ok t = record { lettered = ok; above = elim (le_cases (zeros_le w)) [ inl l ↦ lt_below l | inr e ↦ absurd (false≢true (sym t ∙ ap is_necklace (sym e) ∙ is_necklace_lem (zeros_necklace (length w)))) ] }
 
 -- the largest necklace not above a word: the word itself, or one below it
-pub floor_picked : {k : ℕ} {w : List ℕ} {b : Bool} → Lettered k w → is_necklace w ≡ b → necklace_up_to k w ≡ pick b w (necklace_below k w)
-floor_picked {k} {w} ok t = floor_rule k w ok.marks ∙ ap₂ (λ c v. pick c w v) t (sym (below-rule k w ok.marks))
+pub floor_picked : (k : ℕ) (w : List ℕ) → Lettered k w → necklace_up_to k w ≡ pick (is_necklace w) w (necklace_below k w)
+floor_picked k w ok = floor_rule k w ok.marks ∙ ap (pick (is_necklace w) w) (sym (below-rule k w ok.marks))

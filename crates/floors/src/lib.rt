@@ -7,14 +7,13 @@ ghost use Rattle.lyndon.specs.Letters.{Lettered};
 ghost use Rattle.floors.specs.Lowering.{Lowerable};
 
 // Tries the letters from the last to the first: lowered by one, with the largest letter after it.
+#[tactic(auto, using(crate::proofs::Lowering::lowering_done, crate::proofs::Lowering::lowering_all))]
 pub fn lower(k: u64, w: &mut [u8])
     requires { Lowerable k w.old }
     ensures { w.new ≡ necklace_below k w.old }
 {
     let z = (k - 1) as u8;
-    let mut i = w.len();
-    while 0 < i {
-        i -= 1;
+    for i in (0..w.len()).rev() {
         let a = w[i];
         if 0 < a {
             w[i] = a - 1;
@@ -27,12 +26,12 @@ pub fn lower(k: u64, w: &mut [u8])
 }
 
 // The word itself, if it is a necklace.
+#[tactic(auto, using(crate::proofs::Lowering::not_necklace_lowerable, crate::proofs::Lowering::floor_picked))]
 pub fn floor(k: u64, w: &mut [u8])
     requires { Lettered k w.old }
     ensures { w.new ≡ necklace_up_to k w.old }
 {
-    if lyndon::is_necklace(w) {
-        return;
+    if !lyndon::is_necklace(w) {
+        lower(k, w);
     }
-    lower(k, w);
 }
