@@ -8,38 +8,36 @@ ghost use Rattle.lyndon.specs.Letters.{Lettered};
 ghost use Rattle.steps.specs.Steps.{padded, Held, NextIs, PreviousIs};
 
 // The first `long` letters, repeated up to the end of the buffer.
+#[tactic(auto, using(crate::proofs::Stepping::extending_none, crate::proofs::Stepping::extending_all))]
 pub fn extend(w: &mut [u8], long: usize)
     requires { (1 ≤ long) × (long ≤ length w.old) }
     ensures { w.new ≡ extension (length w.old) (take long w.old) }
 {
-    let mut j = long;
-    while j < w.len() {
+    for j in long..w.len() {
         w[j] = w[j - long];
-        j += 1;
     }
 }
 
 // The last letters k−1 cut off and the letter before them raised; zeros after it. The length that is left.
+#[tactic(auto, using(crate::proofs::Stepping::raising_none, crate::proofs::Stepping::raising_done, crate::proofs::Stepping::raising_all))]
 fn raise_last(k: u64, w: &mut [u8]) -> usize
     requires { Lettered k w.old }
     ensures buffer { w.new ≡ padded (length w.old) (raised k w.old) }
     ensures size { result ≡ length (raised k w.old) }
 {
     let z = (k - 1) as u8;
-    let mut i = w.len();
-    while 0 < i {
-        let a = w[i - 1];
-        if a < z {
-            w[i - 1] = a + 1;
-            return i;
+    for i in (0..w.len()).rev() {
+        if w[i] < z {
+            w[i] += 1;
+            return i + 1;
         }
-        i -= 1;
         w[i] = 0;
     }
     0
 }
 
 // The next Lyndon word of at most w.len() letters after the one in the first `long` letters; 0 after the last.
+#[tactic(auto, using(crate::proofs::Stepping::extension_lettered, crate::proofs::Stepping::next_is))]
 pub fn next(k: u64, w: &mut [u8], long: usize) -> usize
     requires { Held k w.old long }
     ensures { NextIs k w.old long w.new result }
@@ -50,6 +48,7 @@ pub fn next(k: u64, w: &mut [u8], long: usize) -> usize
 
 // The Lyndon word of at most w.len() letters before the one in the first `long` letters; 0 before the first. With its last letter lowered and letters k−1 up
 // to the buffer's end, the word extends the one before it.
+#[tactic(auto, using(crate::proofs::Backing::two_letters, lyndon::proofs::PrePeriods::pre_period_fits))]
 pub fn previous(k: u64, w: &mut [u8], long: usize) -> usize
     requires { Held k w.old long × (is_lyndon (take long w.old) ≡ true) }
     ensures { PreviousIs k w.old long w.new result }
