@@ -1,11 +1,10 @@
 -- Antidiagonals of the table: their sums grow, and in a filled table they are the numbers of paths that the sizes of CS leave out.
 use mathlib.Core.Path.{◌≡◌, refl, ◌∙◌, ap}
 use mathlib.Core.List.{List}
-use Prim.Native.Nat.{ℕ, zero, suc, ◌+◌, ◌-◌, ◌*◌, ◌^◌, ◌≤◌}
+use Prim.Native.Nat.{ℕ, zero, suc, ◌+◌, ◌-◌, ◌^◌, ◌≤◌}
 use native.Mathlib.Omega.{arith}
-use native.Mathlib.Numerals.{add-one}
 use native.Mathlib.Nat.{pow-le-pow_right}
-use lib.ListN.{length, get_or, take}
+use lib.ListN.{length, take}
 use lib.Seq.{take-length}
 use Rattle.theory.specs.Sums.{cs}
 use Rattle.theory.specs.Automaton.{paths_to}
@@ -14,10 +13,7 @@ use Rattle.theory.specs.Prenecklaces.{Prenecklace}
 use Rattle.theory.proofs.Sizes.{sizes_pre}
 use Rattle.automaton.specs.Tables.{Counted, Filled, diagonal_of}
 
--- one more entry; no part exceeds the whole
-pub diagonal_more : (t : List ℕ) (d q : ℕ) → diagonal_of t d q + get_or t ((d - q) * 61 + q) 0 ≡ diagonal_of t d (q + 1)
-diagonal_more t d q = rw (add-one q) (omega arith)
-
+-- no part exceeds the whole
 pub diagonal_le : (t : List ℕ) (d q p : ℕ) → q ≤ p → diagonal_of t d q ≤ diagonal_of t d p
 diagonal_le t d q zero h = let e : q ≡ 0 = omega arith in rw e (omega arith)
 diagonal_le t d q (suc p) h = elim (cmp q (suc p)) [

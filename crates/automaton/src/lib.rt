@@ -19,12 +19,8 @@ fn start(t: &mut [u64], n: usize)
     requires { (length t.old ≡ cells) × (n ≤ 60) }
     ensures { Started n t.new }
 {
+    t[..=n].fill(0);
     t[0] = 1;
-    let mut s = 1;
-    while s <= n {
-        t[s] = 0;
-        s += 1;
-    }
 }
 
 // One table for all prefixes of w: by the letter read, a path goes on to the next state or goes home.
@@ -34,16 +30,12 @@ fn fill(k: u64, w: &[u8], t: &mut [u64])
 {
     let n = w.len();
     start(t, n);
-    let mut l = 1;
-    while l <= n {
+    for l in 1..=n {
         let home = t[(l - 1) * SIDE];
-        let mut s = 0;
-        while s + l <= n {
-            let larger = k - 1 - (w[s] as u64);
+        for s in 0..=n - l {
+            let larger = k - 1 - u64::from(w[s]);
             t[l * SIDE + s] = t[(l - 1) * SIDE + s + 1] + larger * home;
-            s += 1;
         }
-        l += 1;
     }
 }
 
@@ -53,10 +45,8 @@ fn diagonal(t: &[u64], d: usize) -> u64
     ensures { result ≡ diagonal_of t.now d d }
 {
     let mut sum = 0;
-    let mut q = 0;
-    while q < d {
+    for q in 0..d {
         sum += t[(d - q) * SIDE + q];
-        q += 1;
     }
     sum
 }
@@ -79,13 +69,11 @@ pub fn sizes(k: u64, w: &[u8], t: &mut [u64]) -> [u64; 61]
     let n = w.len();
     let mut out = [0u64; 61];
     let mut top = 1;
-    let mut d = 1;
-    while d <= n {
+    for d in 1..=n {
         top *= k;
         if n % d == 0 {
             out[d] = top - diagonal(t, d);
         }
-        d += 1;
     }
     out
 }

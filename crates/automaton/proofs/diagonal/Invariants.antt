@@ -1,11 +1,7 @@
 -- `diagonal` meets its contract. The loop's invariant: the sum is that of the entries of the states passed.
 use mathlib.Core.Path.{◌≡◌}
-use Prim.Native.Nat.{◌-◌, ◌≤◌}
 use Rattle.automaton.specs.Tables.{diagonal_of}
 use Rattle.automaton.proofs.diagonal.Given as goal
 
 abbrev pub invariant-loop-q : goal.invariant-loop-q
-invariant-loop-q l = (l.q ≤ l.d) × (l.sum ≡ diagonal_of l.t l.d l.q)
-
-abbrev pub decreases-loop-q : goal.decreases-loop-q
-decreases-loop-q l = l.d - l.q
+invariant-loop-q l = l.sum ≡ diagonal_of l.t l.d l.q
