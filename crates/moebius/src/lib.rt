@@ -26,7 +26,7 @@ pub fn term(n: u64, d: u64, sizes: &[u64]) -> i64
     ensures { result ≡ summand n sizes.now d }
 {
     let size = sizes[d as usize];
-    (moebius(n / d) as i64) * (size as i64)
+    i64::from(moebius(n / d)) * (size as i64)
 }
 
 // The sum of the terms of n's divisors, from n downwards; of the divisors among the first `count` numbers n, n - 1, .. alone.
@@ -35,13 +35,11 @@ pub fn divisor_sum(k: u64, n: u64, count: u64, sizes: &[u64]) -> i64
     ensures { result ≡ running (summand n sizes.now) (pos 0) (divisors_in n count) }
 {
     let mut sum: i64 = 0;
-    let mut i = 0;
-    while i < count {
+    for i in 0..count {
         let d = n - i;
         if n % d == 0 {
             sum += term(n, d, sizes);
         }
-        i += 1;
     }
     sum
 }
@@ -53,10 +51,8 @@ pub fn powers(k: u64, n: u64) -> [u64; 61]
 {
     let mut t = [0u64; 61];
     t[0] = 1;
-    let mut d = 1;
-    while d <= n {
-        t[d as usize] = t[(d - 1) as usize] * k;
-        d += 1;
+    for d in 1..=n as usize {
+        t[d] = t[d - 1] * k;
     }
     t
 }
