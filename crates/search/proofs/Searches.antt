@@ -18,8 +18,6 @@ use Rattle.theory.proofs.Base.{Split, split, upto, over}
 use Rattle.theory.proofs.Letters.{marks-append, marks-take, marks-replicate}
 use Rattle.theory.proofs.Lyndon.{one_letter, lyndon_pre}
 use Rattle.lyndon.proofs.PrePeriods.{Periodic, periodic, periodic_start, periodic_keep, periodic_raise, periodic_least, periodic_open}
-use Rattle.buffers.specs.Buffers.{filled}
-use Rattle.buffers.proofs.Fills.{filled-size}
 use Rattle.search.specs.declared.Goal.{Goal}
 use Rattle.search.specs.Goals.{Within, goal_word, Searching, Found, letter_back, period_with}
 use Rattle.search.proofs.Goals.{Target, target}
@@ -41,7 +39,6 @@ period_stays p j from c h l = let t : eqb j 0 ≡ false = ne_eqb j 0 (λ e. omeg
 
 -- the first j letters are found, k−1 stands after them, and the period is theirs
 pub record SearchedTo (s : DS.Strip) (g : Goal) (out : List ℕ) (j period : ℕ) : Type 0 where
-  pub within : j ≤ s.n
   pub size : length out ≡ s.n
   pub begun : take j (goal_word s.k s.n g) ≡ take j out
   pub rest : drop j out ≡ replicate (s.n - j) (s.k - 1)
@@ -57,29 +54,16 @@ module _ (s : DS.Strip) (g : Goal) (inside : Within s g) where
   t : Target s.k s.n T
   t = target s g inside
 
-  pub search_start : (before : List ℕ) {out : List ℕ} → length before ≡ s.n → out ≡ filled (s.k - 1) 0 before → SearchedTo s g out 0 0
-  search_start before {out} e f = record {
-    within = omega arith;
-    size = ap length f ∙ filled-size (s.k - 1) 0 before (omega arith) ∙ e;
-    begun = refl;
-    rest = f ∙ ap (λ m. replicate (m - 0) (s.k - 1)) e;
-    repeats = λ q. absurd (omega arith);
-  }
-
-  pub search_end : {out : List ℕ} {j period : ℕ} → SearchedTo s g out j period → length out ≤ j → out ≡ T
-  search_end {out} {j} a q =
-      let e : j ≡ s.n = omega (arith, a.within, a.size) in
+  pub search_end : {out : List ℕ} {j period : ℕ} → SearchedTo s g out j period → j ≡ s.n → out ≡ T
+  search_end {out} {j} a e =
       sym (take-length out) ∙ ap (λ m. take m out) (a.size ∙ sym e) ∙ sym a.begun ∙ ap (λ m. take m T) (e ∙ sym t.long) ∙ take-length T
 
   module _ {out : List ℕ} {j period : ℕ} (a : SearchedTo s g out j period) (q : j < length out) where
     in_target : j < length T
     in_target = omega (arith, q, a.size, t.long)
 
-    pub search_short : j < 60
-    search_short = omega (arith, q, a.size, l.short)
-
-    pub search_back : (0 < j → (1 ≤ period) × (period ≤ j)) × (j < length out)
-    search_back = (λ b. at (a.repeats b), q)
+    search_back : 0 < j → (1 ≤ period) × (period ≤ j)
+    search_back b = at (a.repeats b)
       where
         at : Periodic T period j → (1 ≤ period) × (period ≤ j)
         at (periodic x f e n m) = (omega (arith, f.some), m)
@@ -87,7 +71,7 @@ module _ (s : DS.Strip) (g : Goal) (inside : Within s g) where
     -- what stands a period back is the target's letter
     back_is : 0 < j → letter_back out j period ≡ get_or T (j - period) 0
     back_is b =
-        let near : j - period < j = omega (arith, search_back.0 b) in
+        let near : j - period < j = omega (arith, search_back b) in
         sym (back_inside out period j b) ∙ sym (get_or-take j out (j - period) 0 near) ∙ ap (λ r. get_or r (j - period) 0) (sym a.begun) ∙ get_or-take j T (j - period) 0 near
 
     tops : drop (suc j) out ≡ replicate (s.n - suc j) (s.k - 1)
@@ -121,7 +105,6 @@ module _ (s : DS.Strip) (g : Goal) (inside : Within s g) where
 
     pub search_next : {from r next : ℕ} {out' : List ℕ} → from ≡ letter_back out j period → Found s g out out' j r → next ≡ period_with period j from r → SearchedTo s g out' (j + 1) next
     search_next {from} {r} {next} {out'} e f o = record {
-      within = omega (arith, q, a.size);
       size = ap length f.buffer ∙ length-set out j r ∙ a.size;
       begun = ap (λ m. take m T) (add-one j) ∙ take-suc T j 0 in_target ∙ ap₂ (λ u b. u ++ (b ∷ [])) a.begun (sym f.letter_is) ∙ sym (take-suc-set out j r q) ∙ ap₂ take (sym (add-one j)) (sym f.buffer);
       rest = ap₂ drop (add-one j) f.buffer ∙ drop-set-lt (suc j) out j r (omega arith) ∙ tops ∙ ap (λ m. replicate (s.n - m) (s.k - 1)) (sym (add-one j));

@@ -18,7 +18,7 @@ use Rattle.theory.proofs.Letters.{marks-append, marks_cons, marks-take, marks-dr
 use Rattle.theory.specs.Prenecklaces.{Prenecklace}
 use Rattle.theory.proofs.Digits.{pre_top, reached, reached_out}
 use Rattle.search.specs.declared.Goal.{Goal}
-use Rattle.search.specs.Goals.{Within, goal_word, Searching, Found}
+use Rattle.search.specs.Goals.{Within, goal_word, Searching}
 use Rattle.search.proofs.Goals.{Target, target}
 
 module _ {s : DS.Strip} {g : Goal} {w : List ℕ} {j from : ℕ} (h : Searching s g w j from) where
@@ -92,9 +92,6 @@ pub bisect_start : {s : DS.Strip} {g : Goal} {w : List ℕ} {j from : ℕ} → S
 bisect_start h = record { least = omega arith; above = h.least; under = omega (arith, sought_letter h); top = omega (arith, sought_letter h); size = refl; other = λ a. refl }
 
 module _ {s : DS.Strip} {g : Goal} {w : List ℕ} {j from : ℕ} (h : Searching s g w j from) {v : List ℕ} {low high : ℕ} (b : Bisecting s g w j from v low high) where
-  pub bisect_inside : j < length v
-  bisect_inside = omega (arith, b.size, h.word.long, h.at)
-
   pub bisect_asks : (m : ℕ) → low ≤ m → m < high → WordOn s (set v j m) × Prenecklace (set v j m) × Within s g
   bisect_asks m a q = (
     subst (WordOn s) (sym (b.other m)) (tried_word h m (omega (arith, b.top))),
@@ -121,6 +118,3 @@ module _ {s : DS.Strip} {g : Goal} {w : List ℕ} {j from : ℕ} (h : Searching 
       size = length-set v j m ∙ b.size;
       other = again;
     }
-
-  pub bisect_end : high ≤ low → Found s g w (set v j low) j low
-  bisect_end q = let e : low ≡ sought h = omega (arith, b.above, b.under) in record { letter_is = e; buffer = b.other low }

@@ -83,11 +83,9 @@ pub fn find(s: Strip, goal: Goal, out: &mut [u8])
     buffers::fill(out, 0, (s.k - 1) as u8);
     let mut t = [0u64; automaton::CELLS];
     let mut period = 0;
-    let mut j = 0;
-    while j < out.len() {
+    for j in 0..out.len() {
         let from = back(out, j, period);
         let c = letter(s, goal, out, j, from, &mut t);
         period = period_with(period, j, from, c);
-        j += 1;
     }
 }

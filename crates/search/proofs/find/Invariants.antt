@@ -1,12 +1,8 @@
 -- `search::find` finds the word searched for letter by letter.
 use mathlib.Core.Path.{◌≡◌}
-use Prim.Native.Nat.{◌-◌}
 use lib.ListN.{length}
 use Rattle.search.proofs.Searches.{SearchedTo}
 use Rattle.search.proofs.find.Given as goal
 
 abbrev pub invariant-loop-j : goal.invariant-loop-j
 invariant-loop-j l = SearchedTo l.s l.goal l.out l.j l.period × (length l.t ≡ 3721)
-
-abbrev pub decreases-loop-j : goal.decreases-loop-j
-decreases-loop-j l = l.s.n - l.j
