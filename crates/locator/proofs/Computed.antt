@@ -4,8 +4,11 @@ use mathlib.Core.List.{List}
 use Prim.Native.Nat.{ℕ, ◌+◌, ◌-◌, ◌≤◌, ◌<◌}
 use native.Mathlib.Omega.{arith}
 use lib.Dec.{eqb}
-use lib.ListN.{length, take, drop, length-drop}
-use lib.Seq.{take_all}
+use lib.ListN.{length, take, drop, replicate, length-drop}
+use lib.Seq.{take_all, length-take-le}
+use Rattle.buffers.specs.Buffers.{over}
+use Rattle.buffers.proofs.Bytes.{over-whole}
+use Rattle.theory.proofs.Necklaces.{smallest-length}
 use Rattle.theory.specs.Words.{pick, smallest, least_turn, root}
 use Rattle.theory.specs.Rings.{cursor}
 use Rattle.theory.specs.Strips.{marks_from, place_of, place_in}
@@ -51,6 +54,11 @@ module _ {s : DS.Strip} {w : List ℕ} {l m : ℕ} (on : WordOn s w) (lead : l �
       turn_located e =
           let is = ap (base_of s.k t l) rotation ∙ ap₂ (λ x y. base_of s.k x y (smallest w)) turn lead in
           subst₂ (Located s.k s.n w) (sym turn) (sym (e ∙ is)) (located on not_all)
+
+-- the smallest rotation, put over as much of a buffer as the window has letters
+pub rotated : {s : DS.Strip} {w out : List ℕ} → WordOn s w → out ≡ over (smallest w) (take (length w) (replicate 60 0)) → out ≡ smallest w
+rotated {s} {w} on e =
+    e ∙ over-whole (smallest w) _ (smallest-length w ∙ sym (length-take-le _ (replicate 60 0) (omega (arith, on.long, (limits on.shaped).short))))
 
 -- the word's length and its end
 module _ {s : DS.Strip} {w : List ℕ} {t : ℕ} {v : List ℕ} {long : ℕ} (on : WordOn s w) (at : Located s.k s.n w t v) (size : long ≡ root v) where

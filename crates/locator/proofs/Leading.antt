@@ -2,12 +2,11 @@
 use mathlib.Core.Path.{◌≡◌, refl, sym, ◌∙◌, ap, ap₂}
 use mathlib.Core.List.{List, [], ◌∷◌, head-eq_of_cons-eq, tail-eq_of_cons-eq}
 use mathlib.Core.Logic.{inl, inr, ◌↔◌}
-use Prim.Native.Nat.{ℕ, zero, suc, ◌+◌, ◌≤◌, ◌<◌}
+use Prim.Native.Nat.{ℕ, zero, suc, ◌+◌, ◌≤◌}
 use native.Mathlib.Omega.{arith}
-use native.Mathlib.Numerals.{add-one}
 use lib.Dec.{eqb}
-use lib.ListN.{length, get_or, take, drop, replicate, drop_of_length-le}
-use lib.Seq.{drop-cons, take_all, take-take}
+use lib.ListN.{length, take, replicate}
+use lib.Seq.{take_all, take-take}
 use borrow.Author.Tests.{eqb-true, eq-eqb, ne_eqb}
 use Rattle.theory.proofs.Base.{test}
 use Rattle.locator.specs.Fits.{leading}
@@ -44,12 +43,9 @@ pub leading_all : (b : ℕ) (w : List ℕ) → leading b w ≡ length w → w �
 leading_all b w e =
     sym (take_all (leading b w) w (omega arith)) ∙ leading-take b w ∙ ap (λ x. replicate x b) e
 
--- counted: one more letter, another letter, the end
-pub leading_on : (b : ℕ) (w : List ℕ) (i : ℕ) → i < length w → get_or w i 0 ≡ b → i + leading b (drop i w) ≡ i + 1 + leading b (drop (i + 1) w)
-leading_on b w i h e = rw (drop-cons w i 0 h, eq-eqb (get_or w i 0) b e, add-one i) (omega arith)
+-- counted: another letter, one more letter b
+pub leading_stop : (b a : ℕ) (w : List ℕ) → ¬ (a ≡ b) → leading b (a ∷ w) ≡ 0
+leading_stop b a w n = rw (ne_eqb a b n) refl
 
-pub leading_stop : (b : ℕ) (w : List ℕ) (i : ℕ) → i < length w → ¬ (get_or w i 0 ≡ b) → i + leading b (drop i w) ≡ i
-leading_stop b w i h n = rw (drop-cons w i 0 h, ne_eqb (get_or w i 0) b n) (omega arith)
-
-pub leading_end : (b : ℕ) (w : List ℕ) (i : ℕ) → length w ≤ i → i + leading b (drop i w) ≡ i
-leading_end b w i h = rw (drop_of_length-le w h) (omega arith)
+pub leading_on : (b a : ℕ) (w : List ℕ) → a ≡ b → leading b (a ∷ w) ≡ leading b w + 1
+leading_on b a w e = rw (eq-eqb a b e) (omega arith)

@@ -16,39 +16,18 @@ const TEXT: usize = 2 * Strip::LONGEST;
 pub fn count_leading(b: u8, w: &[u8]) -> usize
     ensures { result ≡ leading b w.now }
 {
-    let mut i = 0;
-    while i < w.len() {
-        if w[i] != b {
-            return i;
-        }
-        i += 1;
-    }
-    i
+    w.iter().position(|x| *x != b).unwrap_or(w.len())
 }
 
-// The first offset at which the window stands in the text; the inner loop leaves a trial at its first differing letter.
+// The first offset at which the window stands in the text.
 fn first_fit(text: &[u8], window: &[u8]) -> usize
     requires { (length window.now ≤ length text.now) × (length text.now ≤ 120) }
     ensures { result ≡ first_fit text.now window.now }
 {
     let offsets = text.len() - window.len() + 1;
-    let mut found = offsets;
-    let mut p = 0;
-    'search: while p < offsets {
-        let mut j = 0;
-        loop {
-            if j == window.len() {
-                found = p;
-                break 'search;
-            }
-            if text[p + j] != window[j] {
-                break;
-            }
-            j += 1;
-        }
-        p += 1;
-    }
-    found
+    (0..offsets)
+        .find(|&p| text[p..].starts_with(window))
+        .unwrap_or(offsets)
 }
 
 // The necklace from whose root word on the window is looked for: it begins in that word or right behind it. The window is α γ with γ α its

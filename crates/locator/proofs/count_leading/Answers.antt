@@ -1,19 +1,14 @@
-use mathlib.Core.Path.{sym, ◌∙◌}
-use native.Mathlib.Omega.{arith}
-use Rattle.locator.proofs.Leading.{leading_on, leading_stop, leading_end}
+-- `locator::count_leading` meets its contract: as many letters b stand at the start as stand before the first other letter.
+use mathlib.Core.Path.{◌≡◌, refl, sym, ◌∙◌}
+use Rattle.std.proofs.Common.{rules, tests}
+use Rattle.std.proofs.lemmas.Iterator.{YieldsList-from_slice, IsFirst-from_position, index_from_first}
+use Rattle.locator.specs.Fits.{leading}
+use Rattle.locator.proofs.Leading.{leading_stop, leading_on}
 use Rattle.locator.proofs.count_leading.Goals as goal
-
-pub loop-i-init : goal.loop-i-init
-loop-i-init c = (omega arith, omega arith)
-
-pub returns-then-w-i : goal.returns-then-w-i
-returns-then-w-i c =
-    sym (c.loop-i.invariant.1 ∙ leading_stop c.args.b c.args.w.now c.loop-i.i (omega arith) c.if-w-i.true)
-
-pub loop-i-preserved : goal.loop-i-preserved
-loop-i-preserved c =
-    (omega arith, c.loop-i.invariant.1 ∙ leading_on c.args.b c.args.w.now c.loop-i.i (omega arith) c.if-w-i.false)
 
 pub returns : goal.returns
 returns c =
-    sym (c.loop-i.invariant.1 ∙ leading_end c.args.b c.args.w.now c.loop-i.i (omega arith))
+    let b = c.args.b in
+    let w = c.args.w.now in
+    let first = IsFirst-from_position _ _ c.position.result (λ a. ¬ (a ≡ b)) (λ a. a ≡ b) c.position.ensures.ran (YieldsList-from_slice w cc) (λ x q k. search (rules, tests)) (λ x q k. search (rules, tests)) in
+    c.unwrap_or.ensures ∙ sym (index_from_first (leading b) (λ a. ¬ (a ≡ b)) (λ a. a ≡ b) refl (leading_stop b) (leading_on b) w c.position.result first)

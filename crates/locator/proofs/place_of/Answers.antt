@@ -1,24 +1,14 @@
 -- `locator::place_of` meets its contract: at the wrap, or at the first fit in the letters from the base word on.
-use mathlib.Core.Path.{◌≡◌, refl, sym, ◌∙◌}
+use mathlib.Core.Path.{refl, sym, ◌∙◌}
 use Prim.Native.Nat.{◌-◌}
 use native.Mathlib.Omega.{arith}
 use lib.ListN.{replicate}
 use lib.Seq.{length-take-le}
-use Rattle.theory.specs.Words.{smallest}
-use Rattle.theory.proofs.Necklaces.{smallest-length}
-use Rattle.shape.proofs.Limits.{limits}
 use Rattle.locator.proofs.Leading.{leading_length}
-use Rattle.buffers.proofs.Bytes.{over-whole}
 use Rattle.locator.proofs.Locates.{Located, place_small, base_counted}
-use Rattle.locator.proofs.Computed.{counts_inside, wrapped_inside, wrapped_place, turn_based, turn_located, letters_short, word_held, word_inside, text_room, text_place}
-use Rattle.locator.proofs.place_of.Goals.{After-base, After-count_leading-lead, After-letters-1, After-room-1, After-shortest_root-long, After-smallest-turn, After-text-2-1, Else-lead-count_leading}
+use Rattle.locator.proofs.Computed.{counts_inside, wrapped_inside, wrapped_place, turn_based, turn_located, rotated, letters_short, word_held, word_inside, text_room, text_place}
+use Rattle.locator.proofs.place_of.Goals.{After-base, After-count_leading-lead, After-letters-1, After-shortest_root-long, After-text-2-1}
 use Rattle.locator.proofs.place_of.Goals as goal
-
-pub overflow_sub-k : goal.overflow_sub-k
-overflow_sub-k c = omega (arith, (limits c.args.s).two)
-
-pub overflow_cast-k : goal.overflow_cast-k
-overflow_cast-k c = omega (arith, (limits c.args.s).most)
 
 pub slice_bounds-count_leading-count : goal.slice_bounds-count_leading-count
 slice_bounds-count_leading-count c = let a = c.args in omega (arith, c.count_leading-lead.ensures, leading_length (a.s.k - 1) a.w.now)
@@ -38,42 +28,25 @@ returns-then-lead-count_leading c =
     c.wrapped.ensures
     ∙ wrapped_place c.requires c.count_leading-lead.ensures c.count_leading.ensures c.if-lead-count_leading.true
 
--- before `smallest`: the window is no longer than the buffer
-pub slice_bounds-room-end : goal.slice_bounds-room-end
-slice_bounds-room-end c = let on = c.requires in omega (arith, on.long, (limits c.args.s).short)
-
-pub slice_bounds-v-end : goal.slice_bounds-v-end
-slice_bounds-v-end c = sym (length-take-le _ (replicate 60 0) (slice_bounds-room-end (goal.at.slice_bounds-v-end c).Else-lead-count_leading))
-
-pub smallest-turn-requires : goal.smallest-turn-requires
-smallest-turn-requires c = omega (arith, slice_bounds-v-end (goal.at.smallest-turn-requires c).After-room-1)
-
-rotation : (c : After-smallest-turn) → c.smallest-turn.new.out ≡ smallest c.args.w.now
-rotation c =
-    let w = c.args.w.now in
-    c.smallest-turn.ensures.1 ∙ over-whole (smallest w) _ (smallest-length w ∙ sym (length-take-le _ (replicate 60 0) (let on = c.requires in omega (arith, on.long, (limits c.args.s).short))))
-
 pub base-requires : goal.base-requires
 base-requires c =
     turn_based c.requires c.count_leading-lead.ensures c.count_leading.ensures c.if-lead-count_leading.false
-    c.smallest-turn.ensures.0 (rotation (goal.at.base-requires c).After-smallest-turn)
+    c.smallest-turn.ensures.0 (rotated c.requires c.smallest-turn.ensures.1)
 
 -- after `base`: the word from which on the window is looked for
-located_at : (c : After-base) → c.smallest-turn.new.out ≡ smallest c.args.w.now
-    → let a = c.args in
-    Located a.s.k a.s.n a.w.now c.smallest-turn.result c.base.new.v
-located_at c r =
+located : (c : After-base) → let a = c.args in Located a.s.k a.s.n a.w.now c.smallest-turn.result c.base.new.v
+located c =
     turn_located c.requires c.count_leading-lead.ensures c.count_leading.ensures c.if-lead-count_leading.false
-    c.smallest-turn.ensures.0 r c.base.ensures
+    c.smallest-turn.ensures.0 (rotated c.requires c.smallest-turn.ensures.1) c.base.ensures
 
 pub whole-end-requires : goal.whole-end-requires
 whole-end-requires c =
-    let (counted, pre, top) = base_counted c.requires (located_at (goal.at.whole-end-requires c).After-base (rotation (goal.at.whole-end-requires c).After-smallest-turn)) in
+    let (counted, pre, top) = base_counted c.requires (located (goal.at.whole-end-requires c).After-base) in
     (counted, pre, top, refl)
 
 -- the word and as many letters as the window has fit the buffer
 pub slice_bounds-letters-end : goal.slice_bounds-letters-end
-slice_bounds-letters-end c = letters_short c.requires (located_at (goal.at.slice_bounds-letters-end c).After-base (rotation (goal.at.slice_bounds-letters-end c).After-smallest-turn)) c.shortest_root-long.ensures
+slice_bounds-letters-end c = letters_short c.requires (located (goal.at.slice_bounds-letters-end c).After-base) c.shortest_root-long.ensures
 
 pub overflow_add-letters : goal.overflow_add-letters
 overflow_add-letters c = omega (arith, slice_bounds-letters-end (goal.at.overflow_add-letters c).After-shortest_root-long)
@@ -82,22 +55,21 @@ pub slice_bounds-text-end : goal.slice_bounds-text-end
 slice_bounds-text-end c = sym (length-take-le _ (replicate 120 0) (slice_bounds-letters-end (goal.at.slice_bounds-text-end c).After-shortest_root-long))
 
 pub write_from-requires : goal.write_from-requires
-write_from-requires c =
-    word_held c.requires (located_at (goal.at.write_from-requires c).After-base (rotation (goal.at.write_from-requires c).After-smallest-turn)) c.shortest_root-long.ensures
+write_from-requires c = word_held c.requires (located (goal.at.write_from-requires c).After-base) c.shortest_root-long.ensures
 
 pub overflow_sub-result : goal.overflow_sub-result
 overflow_sub-result c =
-    word_inside c.requires (located_at (goal.at.overflow_sub-result c).After-base (rotation (goal.at.overflow_sub-result c).After-smallest-turn)) c.shortest_root-long.ensures c.whole-end.ensures.0
+    word_inside c.requires (located (goal.at.overflow_sub-result c).After-base) c.shortest_root-long.ensures c.whole-end.ensures.0
 
 pub first_fit-requires : goal.first_fit-requires
 first_fit-requires c =
-    text_room c.requires (located_at (goal.at.first_fit-requires c).After-base (rotation (goal.at.first_fit-requires c).After-smallest-turn)) c.shortest_root-long.ensures c.write_from.ensures.0
+    text_room c.requires (located (goal.at.first_fit-requires c).After-base) c.shortest_root-long.ensures c.write_from.ensures.0
     (sym (slice_bounds-text-end (goal.at.first_fit-requires c).After-letters-1))
 
 -- at the end: the sum is the place, so it is small
 pub returns : goal.returns
 returns c =
-    text_place c.requires (located_at (goal.at.returns c).After-base (rotation (goal.at.returns c).After-smallest-turn)) c.shortest_root-long.ensures c.write_from.ensures.0
+    text_place c.requires (located (goal.at.returns c).After-base) c.shortest_root-long.ensures c.write_from.ensures.0
     (sym (slice_bounds-text-end (goal.at.returns c).After-letters-1)) c.whole-end.ensures.0 c.first_fit.ensures
 
 pub overflow_add-result : goal.overflow_add-result
