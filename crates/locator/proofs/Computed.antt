@@ -58,7 +58,7 @@ module _ {s : DS.Strip} {w : List ℕ} {l m : ℕ} (on : WordOn s w) (lead : l �
 -- the smallest rotation, put over as much of a buffer as the window has letters
 pub rotated : {s : DS.Strip} {w out : List ℕ} → WordOn s w → out ≡ over (smallest w) (take (length w) (replicate 60 0)) → out ≡ smallest w
 rotated {s} {w} on e =
-    e ∙ over-whole (smallest w) _ (smallest-length w ∙ sym (length-take-le _ (replicate 60 0) (omega (arith, on.long, (limits on.shaped).short))))
+    e ∙ over-whole (smallest w) _ (smallest-length w ∙ sym (length-take-le _ (replicate 60 0) (omega (arith, on.long, (limits s).short))))
 
 -- the word's length and its end
 module _ {s : DS.Strip} {w : List ℕ} {t : ℕ} {v : List ℕ} {long : ℕ} (on : WordOn s w) (at : Located s.k s.n w t v) (size : long ≡ root v) where
