@@ -1,6 +1,6 @@
 -- Entries that are written one after the other: what is written of some changes and then, on the rest of the buffer, of others, is written of both; and so in a
 -- loop over numbers in a row.
-use mathlib.Core.Path.{◌≡◌, refl, sym, ◌∙◌, ap, ap₂, subst}
+use mathlib.Core.Path.{◌≡◌, refl, sym, ◌∙◌, ap, ap₂}
 use mathlib.Core.List.{List, [], ◌∷◌, ◌++◌}
 use Prim.Native.Nat.{ℕ, ◌+◌, ◌-◌, ◌*◌, ◌≤◌, ◌<◌}
 use native.Mathlib.Omega.{arith}
@@ -62,24 +62,10 @@ module _ {s w : List ℕ} {xs : List Change} {t T : List ℕ} {f : ℕ} (front :
 pub record Writing (s w : List ℕ) (f : ℕ → List Change) (m a : ℕ) (t T : List ℕ) (x i : ℕ) : Type 0 where
   pub within : i ≤ m
   pub room : 10 * length (gather f (count_from m a)) ≤ length t
+  pub few : 10 * x ≤ length t
   pub wrote : Wrote s w (gather f (count_from i a)) t T x
 
-pub writing_none : (s w : List ℕ) (f : ℕ → List Change) (m a : ℕ) (t : List ℕ) → 10 * length (gather f (count_from m a)) ≤ length t → Writing s w f m a t t 0 0
-writing_none s w f m a t room = record { within = omega arith; room = room; wrote = wrote_none s w t }
-
 module _ {s w : List ℕ} {f : ℕ → List Change} {m a : ℕ} {t T : List ℕ} {x i : ℕ} (h : Writing s w f m a t T x i) where
-  part_room : 10 * length (gather f (count_from i a)) ≤ length t
-  part_room = omega (arith, h.room, gather_part f i m a h.within)
-
-  pub writing_size : length T ≡ length t
-  writing_size = front-size h.wrote part_room
-
-  pub writing_few : 10 * x ≤ length t
-  writing_few = omega (arith, front_few h.wrote, part_room)
-
-  pub writing_done : i ≡ m → Wrote s w (gather f (count_from m a)) t T x
-  writing_done e = subst (λ j. Wrote s w (gather f (count_from j a)) t T x) e h.wrote
-
   module _ (l : i < m) {e : ℕ} (is : e ≡ a + i) where
     next : gather f (count_from (i + 1) a) ≡ gather f (count_from i a) ++ f e
     next = gather_next f i a ∙ ap (λ j. gather f (count_from i a) ++ f j) (sym is)
@@ -90,9 +76,7 @@ module _ {s w : List ℕ} {f : ℕ → List Change} {m a : ℕ} {t T : List ℕ}
     pub writing_room : 10 * length (f e) ≤ length (rest_of x T)
     writing_room = rest-room h.wrote (f e) next_room
 
-    pub writing_more : {L : List ℕ} {y : ℕ} → Wrote s w (f e) (rest_of x T) L y → Writing s w f m a t (put_mid (10 * x) (length T - 10 * x) T L) (x + y) (i + 1)
-    writing_more {L} {y} g = record {
-      within = omega arith;
-      room = h.room;
-      wrote = subst (λ cs. Wrote s w cs t (put_mid (10 * x) (length T - 10 * x) T L) (x + y)) (sym next) (wrote_on h.wrote (f e) next_room g);
-    }
+    pub writing_more : {L : List ℕ} {y j : ℕ} → j ≡ i + 1 → Wrote s w (f e) (rest_of x T) L y → Writing s w f m a t (put_mid (10 * x) (length T - 10 * x) T L) (x + y) j
+    writing_more {L} {y} {j} one g =
+        let wrote : Wrote s w (gather f (count_from j a)) t (put_mid (10 * x) (length T - 10 * x) T L) (x + y) = rw (one, next) (wrote_on h.wrote (f e) next_room g) in
+        record { within = omega arith; room = h.room; few = omega (arith, front_few wrote, h.room, gather_part f j m a (omega arith)); wrote = wrote }

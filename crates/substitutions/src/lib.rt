@@ -72,11 +72,9 @@ fn put_marks(plan: &[u8], s: Strip, w: &[u8], d: u64, out: &mut [u8]) -> usize
     ensures { Wrote plan.now w.now (changes_for s.k w.now d) out.old out.new result }
 {
     let mut found = 0;
-    let mut j = 0;
-    while j < w.len() {
+    for j in 0..w.len() {
         let end = ENTRY * found;
         found += put_mark(plan, s, w, d, j, &mut out[end..]);
-        j += 1;
     }
     found
 }
@@ -87,11 +85,9 @@ pub fn put_list(plan: &[u8], s: Strip, w: &[u8], out: &mut [u8]) -> usize
     ensures { Wrote plan.now w.now (changes s.k w.now) out.old out.new result }
 {
     let mut found = 0;
-    let mut d = 1;
-    while d < s.k {
+    for d in 1..s.k {
         let end = ENTRY * found;
         found += put_marks(plan, s, w, d, &mut out[end..]);
-        d += 1;
     }
     found
 }

@@ -1,11 +1,8 @@
 -- put_list: the changes by 1 to d − 1 are written.
-use Prim.Native.Nat.{◌-◌, ◌≤◌}
+use Prim.Native.Nat.{◌-◌}
 use Rattle.theory.specs.Substitutions.{changes_for}
 use Rattle.substitutions.proofs.Writing.{Writing}
 use Rattle.substitutions.proofs.put_list.Given as goal
 
 abbrev pub invariant-loop-d : goal.invariant-loop-d
-invariant-loop-d l = (1 ≤ l.d) × Writing l.plan l.w (changes_for l.s.k l.w) (l.s.k - 1) 1 l.initial.out l.out l.found (l.d - 1)
-
-abbrev pub decreases-loop-d : goal.decreases-loop-d
-decreases-loop-d l = l.s.k - l.d
+invariant-loop-d l = Writing l.plan l.w (changes_for l.s.k l.w) (l.s.k - 1) 1 l.initial.out l.out l.found (l.d - 1)
