@@ -1,16 +1,15 @@
--- One change: the window so changed is a word of the strip, and what is written of it if it is laid, and if it is not; a change down and one up.
-use mathlib.Core.Path.{◌≡◌, refl, sym, ◌∙◌, ap, ap₂, subst}
+-- One change: the window so changed is a word of the strip, and what is written of it if it is laid, and if it is not.
+use mathlib.Core.Path.{◌≡◌, refl, sym, ◌∙◌, ap, ap₂}
 use mathlib.Core.Bool.{true, false}
 use mathlib.Core.List.{List, [], ◌∷◌}
-use Prim.Native.Nat.{ℕ, ◌+◌, ◌-◌, ◌^◌, ◌≤◌, ◌<◌}
+use Prim.Native.Nat.{ℕ, ◌-◌, ◌^◌, ◌≤◌, ◌<◌}
 use native.Mathlib.Omega.{arith}
-use lib.ListN.{length, get_or, set, take, drop}
+use lib.ListN.{length, set, take, drop}
 use borrow.Rule.Slice.PartMut.{put_mid}
-use borrow.Author.Tests.{lt-ltb, le-ltb, le-leb, lt-leb}
 use Rattle.theory.specs.Strips.{place_of}
 use Rattle.theory.specs.Plans.{laying_at, laid_at}
-use Rattle.theory.specs.Substitutions.{Change, change, changed, changes_down, changes_up, new_place}
-use Rattle.theory.proofs.Letters.{marks_getD, marks-set}
+use Rattle.theory.specs.Substitutions.{change, changed, new_place}
+use Rattle.theory.proofs.Letters.{marks-set}
 use Rattle.theory.proofs.Laying.{some_laid, none_laid}
 use Rattle.theory.proofs.Substitutions.{changed-length}
 use Rattle.buffers.specs.Buffers.{over}
@@ -18,11 +17,9 @@ use Rattle.buffers.proofs.Bytes.{handed_on}
 use Rattle.numbers.specs.Numbers.{put_be}
 use Rattle.shape.specs.declared.Strip as DS
 use Rattle.shape.specs.Shapes.{WordOn}
-use Rattle.shape.proofs.Limits.{limits}
 use Rattle.plans.specs.Opened.{Accepted}
 use Rattle.locator.proofs.Locates.{place_small}
-use Rattle.substitutions.specs.Entries.{Writes, Wrote}
-use Rattle.substitutions.proofs.Writing.{wrote_none}
+use Rattle.substitutions.specs.Entries.{Wrote}
 
 -- two bytes at the start of a buffer, and bytes behind them
 two_set : (j a : ℕ) (t : List ℕ) → 2 ≤ length t → set (set t 0 j) 1 a ≡ j ∷ a ∷ drop 2 t
@@ -55,32 +52,3 @@ module _ {s : List ℕ} {x : DS.Strip} (plan : Accepted s x) {w : List ℕ} (wor
     wrote_one t some e =
         let laid : laid_at s (new_place s w (change j a)) ≡ true = ap (laid_at s) (sym place_is) ∙ some_laid s p some in
         record { count = rw laid; bytes = rw laid (e ∙ ap (λ q. over (j ∷ a ∷ put_be 8 q) t) place_is) }
-
--- a change down, and one up, is one change or none
-module _ (d j a : ℕ) where
-  pub down_is : d ≤ a → changes_down d j a ≡ change j (a - d) ∷ []
-  down_is h = rw (le-leb d a h)
-
-  pub down-none : a < d → changes_down d j a ≡ []
-  down-none h = rw (lt-leb d a h)
-
-  pub up_is : (k : ℕ) → a + d < k → changes_up k d j a ≡ change j (a + d) ∷ []
-  up_is k h = rw (lt-ltb (a + d) k h)
-
-  pub up_none : (k : ℕ) → k ≤ a + d → changes_up k d j a ≡ []
-  up_none k h = rw (le-ltb (a + d) k h)
-
--- changes that are none or one: nothing is to be written, or just that one
-module _ {s w : List ℕ} {cs : List Change} where
-  pub none_tried : (t : List ℕ) → cs ≡ [] → Wrote s w cs t t 0
-  none_tried t e = subst (λ xs. Wrote s w xs t t 0) (sym e) (wrote_none s w t)
-
-  pub one_asked : {c : Change} → cs ≡ c ∷ [] → {x : DS.Strip} {t : List ℕ} → Writes s x w cs t → Writes s x w (c ∷ []) t
-  one_asked e {x} {t} h = subst (λ xs. Writes s x w xs t) e h
-
-  pub one_tried : {c : Change} → cs ≡ c ∷ [] → {t t' : List ℕ} {r : ℕ} → Wrote s w (c ∷ []) t t' r → Wrote s w cs t t' r
-  one_tried e {t} {t'} {r} h = subst (λ xs. Wrote s w xs t t' r) (sym e) h
-
--- a letter of the window is one of the strip's, so a byte
-pub letter_small : {x : DS.Strip} {w : List ℕ} → WordOn x w → (j : ℕ) → j < length w → (get_or w j 0 < x.k) × (x.k ≤ 36)
-letter_small {x} {w} word j inside = (marks_getD x.k w j inside word.marks, (limits x).most)

@@ -37,7 +37,7 @@ fn put_down(plan: &[u8], s: Strip, w: &[u8], d: u64, j: usize, out: &mut [u8]) -
     requires { Writes plan.now s w.now (changes_down d j (get_or w.now j 0)) out.old × (j < length w.now) }
     ensures { Wrote plan.now w.now (changes_down d j (get_or w.now j 0)) out.old out.new result }
 {
-    let a = w[j] as u64;
+    let a = u64::from(w[j]);
     if a < d {
         return 0;
     }
@@ -49,7 +49,7 @@ fn put_up(plan: &[u8], s: Strip, w: &[u8], d: u64, j: usize, out: &mut [u8]) -> 
     requires { Writes plan.now s w.now (changes_up s.k d j (get_or w.now j 0)) out.old × (j < length w.now) × (d < s.k) }
     ensures { Wrote plan.now w.now (changes_up s.k d j (get_or w.now j 0)) out.old out.new result }
 {
-    let a = w[j] as u64 + d;
+    let a = u64::from(w[j]) + d;
     if s.k <= a {
         return 0;
     }
