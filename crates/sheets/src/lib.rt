@@ -52,10 +52,8 @@ fn put_sheet(s: Strip, word: &[u8], out: &mut [u8]) -> usize
 {
     let sizes = ranks::sizes_of(s, word);
     let mut filled = 0;
-    let mut i = 0;
-    while i < s.n {
+    for i in 0..s.n {
         filled = put_line(s.k, s.n, i, &sizes, out, filled);
-        i += 1;
     }
     filled
 }

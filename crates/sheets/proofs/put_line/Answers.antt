@@ -1,4 +1,4 @@
--- `sheets::put_line`: nothing for a number that does not divide n; else the divisor, its term and the sum with it.
+-- `sheets::put_line`: of a divisor, its line: the divisor, its term and the sum with it.
 use mathlib.Core.Path.{◌≡◌, sym, ◌∙◌, ap₂}
 use mathlib.Core.List.{[], ◌∷◌, ◌++◌}
 use Prim.Native.Nat.{◌+◌, ◌-◌, ◌^◌, ◌<◌}
@@ -11,17 +11,13 @@ use Rattle.theory.specs.Sums.{running, divisors_in}
 use Rattle.moebius.specs.Summands.{summand}
 use Rattle.moebius.proofs.Passed.{entry_small, term_range, sum_range}
 use Rattle.texts.specs.Texts.{decimal, signed}
-use Rattle.texts.proofs.Adding.{adds_none, adds_as}
+use Rattle.texts.proofs.Adding.{adds_as}
 use Rattle.texts.proofs.Signs.{signed_fits}
-use Rattle.lines.proofs.Building.{Written, nothing, more_field, field_room, more_number, number_room}
+use Rattle.lines.proofs.Building.{Written, nothing, more_field, field_room, more_number}
 use Rattle.sheets.specs.Worksheets.{sheet_line}
-use Rattle.sheets.proofs.Rows.{three, divisor-line, no_line}
+use Rattle.sheets.proofs.Rows.{three, divisor-line}
 use Rattle.sheets.proofs.put_line.Goals.{After-divisor_sum-sum, After-put_number-divisor, After-put_signed-both}
 use Rattle.sheets.proofs.put_line.Goals as goal
-
-pub returns-then-n-d-ne0 : goal.returns-then-n-d-ne0
-returns-then-n-d-ne0 c =
-    (adds_as (adds_none c.args.out.now c.args.at) (sym (no_line (summand c.args.n c.args.sizes.now) c.args.n c.args.i c.if-n-d-ne0.true)), omega arith)
 
 pub term-term-requires : goal.term-term-requires
 term-term-requires c =
@@ -41,10 +37,6 @@ the_sum : (c : After-divisor_sum-sum) → let a = c.args in
 the_sum c =
     let is = to_z-of_z w64 c.divisor_sum-sum.result (record { sfits = c.divisor_sum-sum.type_inv }) ∙ c.divisor_sum-sum.ensures in
     (is, rw is (sum_range c.args.k c.args.n c.args.sizes.now c.requires.0 (c.args.i + 1)))
-
-pub put_number-divisor-requires : goal.put_number-divisor-requires
-put_number-divisor-requires c =
-    number_room (c.args.n - c.args.i) (omega arith) (nothing c.args.out.now c.args.at) (omega arith) c.requires.2
 
 divisor : (c : After-put_number-divisor) → let a = c.args in
     Written a.out.now a.at 21 ([] ++ (decimal (a.n - a.i) ++ (32 ∷ []))) c.put_number-divisor.new.out c.put_number-divisor.result
