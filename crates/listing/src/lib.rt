@@ -48,12 +48,9 @@ fn put_sections(plan: &[u8], s: Strip, out: &mut [u8], at: usize) -> usize
     requires { Accepted plan.now s × (at ≤ line) × (most ≤ length out.old) }
     ensures { Adds out.old at (section_lines s.k s.n 0 (sections plan.now)) out.new result }
 {
-    let count = sections::count(plan);
     let mut filled = at;
-    let mut i = 0;
-    while i < count {
+    for i in 0..sections::count(plan) {
         filled = put_section(s, i, sections::section_at(plan, i), out, filled);
-        i += 1;
     }
     filled
 }

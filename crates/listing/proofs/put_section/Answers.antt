@@ -1,11 +1,8 @@
 -- `listing::put_section`: the number, offset and length of a section, and its first window.
-use mathlib.Core.Path.{sym}
 use mathlib.Core.List.{[], ◌∷◌, ◌++◌}
 use native.Mathlib.Omega.{arith}
 use borrow.Author.Rules.{rules}
-use Rattle.shape.proofs.Limits.{limits}
 use Rattle.texts.specs.Texts.{glyphs}
-use Rattle.access.proofs.Reading.{in_room}
 use Rattle.texts.proofs.Adding.{adds_as}
 use Rattle.sections.specs.Read.{section_of}
 use Rattle.listing.proofs.Sections.{window_short, digits_short, window_digits, section_text}
@@ -42,12 +39,6 @@ put_number-offset-requires c = number_room c.args.section.offset (search rules) 
 
 pub put_number-numbers-requires : goal.put_number-numbers-requires
 put_number-numbers-requires c = number_room c.args.section.long (search rules) (offset (goal.at.put_number-numbers-requires c).After-put_number-offset) (omega arith) c.requires.2
-
-pub slice_bounds-room-end : goal.slice_bounds-room-end
-slice_bounds-room-end c = (limits c.requires.0).short
-
-pub slice_bounds-window-end : goal.slice_bounds-window-end
-slice_bounds-window-end c = sym (in_room c.requires.0)
 
 pub put_letters-end-requires : goal.put_letters-end-requires
 put_letters-end-requires c =
