@@ -132,11 +132,6 @@ necklace_none w h z = elim (test (is_necklace w)) [
   | inr t ↦ t
 ]
 
-pub necklace_empty : (w : List ℕ) → length w ≡ 0 → is_necklace w ≡ true
-necklace_empty w h = ap is_necklace (nil_of w h)
-
-pub ruleset necklace_laws = (necklace_empty, necklace_none, necklace_by_period)
-
 -- letter by letter: the first i letters extend a Lyndon word of length p
 pub data Periodic (w : List ℕ) (p i : ℕ) : Type 0 where
   periodic : (x : List ℕ) → Lyndon x → Extends x (take i w) → length x ≡ p → p ≤ i → Periodic w p i

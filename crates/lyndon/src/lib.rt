@@ -43,7 +43,7 @@ pub fn is_lyndon(w: &[u8]) -> bool
 }
 
 // Is w its own smallest rotation? Just if it is a Lyndon word repeated.
-#[tactic(auto, using(crate::proofs::PrePeriods::necklace_laws))]
+#[tactic(auto, using(crate::proofs::PrePeriods::necklace_none, crate::proofs::PrePeriods::necklace_by_period))]
 pub fn is_necklace(w: &[u8]) -> bool
     ensures { result ≡ is_necklace w.now }
 {

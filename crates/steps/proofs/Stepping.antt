@@ -1,25 +1,22 @@
 -- The step to the next Lyndon word in a buffer: the extension grows by the letter a period back; then the last letters k−1 are
 -- cleared from the end and the letter before them is raised.
-use mathlib.Core.Path.{◌≡◌, refl, sym, ◌∙◌, ap, ap₂, subst}
-use mathlib.Core.List.{List, [], ◌∷◌, ◌++◌, append_assoc, append-nil}
+use mathlib.Core.Path.{◌≡◌, sym, ◌∙◌, ap, ap₂, subst}
+use mathlib.Core.List.{List, [], ◌∷◌, ◌++◌, append_assoc}
 use Prim.Native.Nat.{ℕ, suc, ◌+◌, ◌-◌, ◌≤◌, ◌<◌}
 use native.Mathlib.Numerals.{add-one}
 use native.Mathlib.Omega.{arith}
-use lib.ListN.{length, get_or, set, take, drop, replicate, length-append, length-set, drop_of_length-le, take-append-drop, get_or-append}
+use lib.ListN.{length, get_or, set, take, drop, replicate, length-append, length-set, get_or-append}
 use lib.Seq.{drop-cons, split_at, length-take-le, set_at, get_or_at, get_or-append-add}
 use Rattle.theory.specs.Steps.{extension, raised}
 use Rattle.theory.proofs.Order.{prefix}
-use Rattle.theory.proofs.Powers.{Extends, extends, extends_one, extends_self, extends_same, extension-length, extension_extends}
+use Rattle.theory.proofs.Powers.{Extends, extends, extends_one, extension-length, extension_extends}
 use Rattle.theory.proofs.Letters.{marks_getD, marks-extension}
 use Rattle.theory.proofs.Next.{raised_at, top_raised}
 use Rattle.lyndon.specs.Letters.{Lettered}
-use Rattle.steps.specs.Steps.{padded, Held, NextIs}
-use Rattle.buffers.proofs.Fills.{Filled, filled_none, filled-read, filled_write, filled_more}
+use Rattle.steps.specs.Steps.{padded, Held}
+use Rattle.buffers.proofs.Fills.{Filled, filled-read, filled_write, filled_more}
 
 -- the extension letter by letter
-pub extension_own : (x : List ℕ) → 0 < length x → extension (length x) x ≡ x
-extension_own x h = extends_same h (extension_extends (length x) x) (extends_self x) (extension-length (length x) x h)
-
 pub extension_more : (x : List ℕ) (j : ℕ) → 0 < length x → length x ≤ j → extension (suc j) x ≡ extension j x ++ (get_or (extension j x) (j - length x) 0 ∷ [])
 extension_more x j h l = elim (extends_one (suc j) (omega (arith, extension-length j x h)) h (extension_extends j x) (extension_extends (suc j) x) (omega (arith, extension-length j x h, extension-length (suc j) x h))) [
   | prefix t e ↦ one t e
@@ -58,12 +55,6 @@ module _ (w₀ : List ℕ) (n : ℕ) (some : 1 ≤ n) (fits : n ≤ length w₀)
   long : (j : ℕ) → length (extension j (take n w₀)) ≡ j
   long j = extension-length j (take n w₀) (omega (arith, front))
 
-  pub extending_none : Extending w₀ n w₀ n
-  extending_none = record { behind = omega arith; within = fits; size = refl; word = sym (ap (λ r. r ++ drop n w₀) own ∙ take-append-drop n w₀) }
-    where
-      own : extension n (take n w₀) ≡ take n w₀
-      own = ap (λ r. extension r (take n w₀)) (sym front) ∙ extension_own (take n w₀) (omega (arith, front))
-
   pub extending_more : {w : List ℕ} {j : ℕ} → Extending w₀ n w j → j < length w₀ → Extending w₀ n (set w j (get_or w (j - n) 0)) (j + 1)
   extending_more {w} {j} f l = record { behind = omega arith; within = omega arith; size = length-set w j (get_or w (j - n) 0) ∙ f.size; word = ap₂ (λ y a. set y j a) parted letter ∙ set_at x (get_or w₀ j 0) (drop (suc j) w₀) v j (long j) ∙ sym grown }
     where
@@ -82,20 +73,10 @@ module _ (w₀ : List ℕ) (n : ℕ) (some : 1 ≤ n) (fits : n ≤ length w₀)
       grown : extension (j + 1) (take n w₀) ++ drop (j + 1) w₀ ≡ x ++ (v ∷ drop (suc j) w₀)
       grown = ap (λ m. extension m (take n w₀) ++ drop m w₀) (add-one j) ∙ ap (λ y. y ++ drop (suc j) w₀) (extension_more (take n w₀) j (omega (arith, front)) (omega (arith, front, f.behind)) ∙ ap (λ m. x ++ (get_or x (j - m) 0 ∷ [])) front) ∙ append_assoc x (v ∷ []) (drop (suc j) w₀)
 
-  pub extending_all : {w : List ℕ} {j : ℕ} → Extending w₀ n w j → length w₀ ≤ j → w ≡ extension (length w₀) (take n w₀)
-  extending_all {w} {j} f l =
-      let m : j ≡ length w₀ = omega (arith, f.within) in
-      f.word ∙ ap₂ (λ x y. extension x (take n w₀) ++ y) m (drop_of_length-le w₀ l) ∙ append-nil (extension (length w₀) (take n w₀))
-
 -- the buffer before the letter at i − 1 is looked at: zeros, where letters k−1 were
 pub record Raising (z : ℕ) (w₀ w : List ℕ) (i : ℕ) : Type 0 where
   pub filled : Filled 0 w₀ w i
   pub tops : drop i w₀ ≡ replicate (length w₀ - i) z
-
-pub raising_none : (z : ℕ) (w : List ℕ) → Raising z w w (length w)
-raising_none z w =
-    let e : length w - length w ≡ 0 = omega arith in
-    record { filled = filled_none 0 w; tops = drop_of_length-le w {i = length w} (omega arith) ∙ ap (λ r. replicate r z) (sym e) }
 
 module _ {k : ℕ} {w₀ : List ℕ} (ok : Lettered k w₀) {w : List ℕ} {i : ℕ} (f : Raising (k - 1) w₀ w i) where
   k_is : suc (k - 1) ≡ k
@@ -144,12 +125,7 @@ module _ {k : ℕ} {w₀ : List ℕ} (ok : Lettered k w₀) {w : List ℕ} {i : 
       left : raised k w₀ ≡ []
       left = ap₂ raised (sym k_is) (ap (λ m. drop m w₀) (sym zero_i) ∙ f.tops) ∙ top_raised (k - 1) (length w₀ - i)
 
--- the two after each other
+-- what the extension is raised from
 module _ {k : ℕ} {w : List ℕ} {n : ℕ} (held : Held k w n) {v : List ℕ} (is : v ≡ extension (length w) (take n w)) where
   pub extension_lettered : Lettered k v
   extension_lettered = subst (Lettered k) (sym is) (record { some = held.lettered.some; byte = held.lettered.byte; marks = marks-extension k (length w) (take n w) held.lettered.marks })
-
-  pub next_is : {u : List ℕ} {r : ℕ} → u ≡ padded (length v) (raised k v) → r ≡ length (raised k v) → NextIs k w n u r
-  next_is e m =
-      let long : length v ≡ length w = ap length is ∙ extension-length (length w) (take n w) (omega (arith, held.some, length-take-le n w held.fits)) in
-      record { buffer = e ∙ ap₂ (λ x y. padded x (raised k y)) long is; size = m ∙ ap (λ y. length (raised k y)) is }

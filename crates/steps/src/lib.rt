@@ -8,7 +8,6 @@ ghost use Rattle.lyndon.specs.Letters.{Lettered};
 ghost use Rattle.steps.specs.Steps.{padded, Held, NextIs, PreviousIs};
 
 // The first `long` letters, repeated up to the end of the buffer.
-#[tactic(auto, using(crate::proofs::Stepping::extending_none, crate::proofs::Stepping::extending_all))]
 pub fn extend(w: &mut [u8], long: usize)
     requires { (1 ≤ long) × (long ≤ length w.old) }
     ensures { w.new ≡ extension (length w.old) (take long w.old) }
@@ -19,7 +18,7 @@ pub fn extend(w: &mut [u8], long: usize)
 }
 
 // The last letters k−1 cut off and the letter before them raised; zeros after it. The length that is left.
-#[tactic(auto, using(crate::proofs::Stepping::raising_none, crate::proofs::Stepping::raising_done, crate::proofs::Stepping::raising_all))]
+#[tactic(auto, using(crate::proofs::Stepping::raising_done, crate::proofs::Stepping::raising_all))]
 fn raise_last(k: u64, w: &mut [u8]) -> usize
     requires { Lettered k w.old }
     ensures buffer { w.new ≡ padded (length w.old) (raised k w.old) }
@@ -37,7 +36,7 @@ fn raise_last(k: u64, w: &mut [u8]) -> usize
 }
 
 // The next Lyndon word of at most w.len() letters after the one in the first `long` letters; 0 after the last.
-#[tactic(auto, using(crate::proofs::Stepping::extension_lettered, crate::proofs::Stepping::next_is))]
+#[tactic(auto, using(crate::proofs::Stepping::extension_lettered))]
 pub fn next(k: u64, w: &mut [u8], long: usize) -> usize
     requires { Held k w.old long }
     ensures { NextIs k w.old long w.new result }
@@ -48,7 +47,7 @@ pub fn next(k: u64, w: &mut [u8], long: usize) -> usize
 
 // The Lyndon word of at most w.len() letters before the one in the first `long` letters; 0 before the first. With its last letter lowered and letters k−1 up
 // to the buffer's end, the word extends the one before it.
-#[tactic(auto, using(crate::proofs::Backing::two_letters, lyndon::proofs::PrePeriods::pre_period_fits))]
+#[tactic(auto, using(lyndon::proofs::PrePeriods::pre_period_fits))]
 pub fn previous(k: u64, w: &mut [u8], long: usize) -> usize
     requires { Held k w.old long × (is_lyndon (take long w.old) ≡ true) }
     ensures { PreviousIs k w.old long w.new result }
