@@ -1,7 +1,5 @@
 -- A word of the ring, the way from one to the next, and the letters from a place on.
 pub mod Directions
 pub mod Ways
-pub mod Round
 pub mod Moving
 pub mod Printing
-pub mod Held

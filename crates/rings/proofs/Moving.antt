@@ -23,7 +23,6 @@ use Rattle.shape.proofs.Rings.{allowed_of}
 use Rattle.steps.specs.Steps.{padded, Held, Put, NextIs, PreviousIs}
 use Rattle.rings.specs.Moves.{HeldOn, MovedTo}
 use Rattle.rings.proofs.Directions.{Direction, counted, ahead, Laws, Way, Onward, Turn, ended, moved, antisym, way_begins, turn, arrived, further_on}
-use Rattle.rings.proofs.Round.{Puts}
 use Rattle.rings.proofs.Ways.{forth, back, First, forth_of, back_of_lem}
 
 -- a word with zeros after it in a buffer
@@ -68,6 +67,10 @@ module _ {ok : ℕ → Bool} {k n : ℕ} {u w after : List ℕ} {l m passed : �
   pub previous_put : Going (back ok k n) ok k n u w l passed → PreviousIs k w l after m → Put n (word_before k n (take l w)) after m
   previous_put g q = subst (λ j. Put j (word_before k j (take l w)) after m) g.size q
 
+-- a word over n letters, and its length
+abbrev pub Puts : ℕ → List ℕ → List ℕ → ℕ → Type 0
+Puts n word after r = (after ≡ padded n word) × (r ≡ length word)
+
 -- the words passed from u to the word of the ring that follows it
 abbrev pub passes : Direction → ℕ → ℕ → List ℕ → ℕ
 passes d k n u = pick (d.past u (d.leads u)) (counted d k n u (d.leads u)) 0
@@ -100,12 +103,8 @@ module _ {d : Direction} {ok : ℕ → Bool} {k n : ℕ} (r : Laws d ok k n) {u 
     emptied : m ≡ 0 → after ≡ padded n []
     emptied e = q.buffer ∙ ap (padded n) (nil_of y (sym q.size ∙ e))
 
-    -- so it asks for that word, which is put there
-    pub size_kept : m ≡ 0 → length after ≡ n
+    size_kept : m ≡ 0 → length after ≡ n
     size_kept e = ap length (emptied e) ∙ padded-length n [] (omega arith)
-
-    pub asks_round : 1 ≤ n → m ≡ 0 → (1 ≤ length after) × (after ≡ padded (length after) [])
-    asks_round one e = (omega (arith, size_kept e), emptied e ∙ ap (λ i. padded i []) (sym (size_kept e)))
 
     pub wraps : (word : ℕ → List ℕ) {v : List ℕ} {long : ℕ} → m ≡ 0 → First d ok k n (word n) → Puts (length after) (word (length after)) v long
         → MovedTo n (d.leads u) (passes d k n u) v (record { long = long; passed = 0 })

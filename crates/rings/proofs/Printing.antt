@@ -5,8 +5,9 @@ use Prim.Native.Nat.{ℕ, zero, suc, ◌+◌, ◌-◌, ◌≤◌, ◌<◌}
 use native.Mathlib.Omega.{arith}
 use native.Mathlib.Nat.{add-zero}
 use lib.ListN.{length, get_or, take, drop, length-take, length-drop, take-append-drop}
-use lib.Seq.{length-take-le, take-append_seam, take_at, drop_at, take-add, drop-length, drop-cons}
+use lib.Seq.{take-append_seam, take_at, drop-length, drop-cons}
 use borrow.Rule.Slice.PartMut.{put_mid}
+use Rattle.std.proofs.lemmas.Slice.{between_is}
 use Rattle.theory.specs.Words.{marks_ok, is_lyndon}
 use Rattle.theory.specs.Lists.{In}
 use Rattle.theory.specs.Rings.{ring_words, ring, modulo, letter_on, Cursor, cursor, before_w, position_in, next_on}
@@ -35,7 +36,7 @@ listed_some : (lengths : Lengths) (k n : ℕ) {x : List ℕ} → In x (ring_word
 listed_some lengths k n {x} i = lyndon_some x ((ring_words_lem (ok_of lengths n) k n x).0 i).2
 
 -- as many letters as are taken
-pub take_counted : (m : ℕ) (w : List ℕ) → take (length (take m w)) w ≡ take m w
+take_counted : (m : ℕ) (w : List ℕ) → take (length (take m w)) w ≡ take m w
 take_counted m w = ap (take (length (take m w))) (sym (take-append-drop m w)) ∙ take-append_seam (take m w) (drop m w)
 
 module _ (lengths : Lengths) (k n : ℕ) (two : 2 ≤ k) (one : 1 ≤ n) where
@@ -106,12 +107,6 @@ print_ends {lengths} {s} {start} {out₀} {w} {out} {l} {from} {filled} p h =
     let f : length m ≡ length out₀ = letters-length (size_of lengths s.k s.n) (ring (ok_of lengths s.n) s.k s.n) start filled ∙ e in
     p.done ∙ ap (λ r. m ++ r) (ap (λ j. drop j out₀) f ∙ drop-length out₀) ∙ append-nil m ∙ ap (letters_of lengths s.k s.n start) e
 
--- what is left of a word
-drop-take : (i l : ℕ) (w : List ℕ) → i ≤ l → l ≤ length w → take (l - i) (drop i w) ≡ drop i (take l w)
-drop-take i l w h g =
-    let e : i + (l - i) ≡ l = omega arith in
-    sym (drop_at (take i w) (take (l - i) (drop i w)) i (length-take-le i w (omega arith))) ∙ ap (drop i) (sym (take-add i (l - i) w) ∙ ap (λ j. take j w) e)
-
 -- the word that a move leads to is held
 module _ {lengths : Lengths} {s : DS.Strip} {w : List ℕ} {l : ℕ} (h : HeldOn lengths s w l) {after-w : List ℕ} {r : DM.Moved} (m : MovedIs lengths s w l after-w r) where
   pub moved_word : take r.long after-w ≡ after lengths s.k s.n (take l w)
@@ -144,10 +139,6 @@ module _ {lengths : Lengths} {s : DS.Strip} {start : ℕ} {out₀ w out : List �
   rest : length (take (l - from) (drop from w)) ≡ l - from
   rest = omega (arith, length-take (l - from) (drop from w), length-drop from w, held_fits p.held, p.inside)
 
-  -- as many letters as the word has left and the buffer takes
-  pub put_some : 0 < r
-  put_some = omega (arith, c, room, rest, p.inside, length-take (length (take (length out - filled) (drop filled out))) (take (l - from) (drop from w)))
-
   pub put-room : filled + r ≤ length out₀
   put-room = omega (arith, c, room, p.kept, length-take (length (take (length out - filled) (drop filled out))) (take (l - from) (drop from w)))
 
@@ -160,7 +151,7 @@ module _ {lengths : Lengths} {s : DS.Strip} {start : ℕ} {out₀ w out : List �
   put-letters : take (length (take (length out - filled) (drop filled out))) (take (l - from) (drop from w)) ≡ take r (drop from (take l w))
   put-letters =
       let m = length (take (length out - filled) (drop filled out)) in
-      sym (take_counted m (take (l - from) (drop from w))) ∙ ap₂ take (sym c) (drop-take from l w (omega (arith, p.inside)) (held_fits p.held))
+      sym (take_counted m (take (l - from) (drop from w))) ∙ ap₂ take (sym c) (between_is w from l)
 
   more_letters : letters_of lengths s.k s.n start (filled + r)
       ≡ letters_of lengths s.k s.n start filled ++ take (length (take (length out - filled) (drop filled out))) (take (l - from) (drop from w))

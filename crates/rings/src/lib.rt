@@ -26,15 +26,10 @@ pub fn is_on(lengths: Lengths, k: u64, n: u64, word: &[u8], place: u64) -> bool
     ensures { result ≡ good_in (ok_of lengths) (cursor k n word.now place) }
 {
     let long = word.len() as u64;
-    if long <= place {
-        return false;
-    }
-    if allows(lengths, n, long) {
-        if lyndon::letters_below(k, word) {
-            return lyndon::is_lyndon(word);
-        }
-    }
-    false
+    place < long
+        && allows(lengths, n, long)
+        && lyndon::letters_below(k, word)
+        && lyndon::is_lyndon(word)
 }
 
 // The length of the word that a move leads to, and how many Lyndon words of at most n letters it passes.
@@ -140,10 +135,7 @@ pub fn previous_word(lengths: Lengths, s: Strip, w: &mut [u8], long: usize) -> M
 fn put_word(word: &[u8], out: &mut [u8]) -> usize
     ensures { (out.new ≡ clipped word.now out.old) × (result ≡ length (take (length out.old) word.now)) }
 {
-    let mut c = word.len();
-    if out.len() < c {
-        c = out.len();
-    }
+    let c = word.len().min(out.len());
     buffers::copy(&word[..c], out);
     c
 }

@@ -3,7 +3,7 @@ use native.Mathlib.Omega.{arith}
 use Rattle.shape.proofs.Limits.{limits}
 use Rattle.rings.specs.Moves.{first_word}
 use Rattle.rings.proofs.Ways.{first_of_lem}
-use Rattle.rings.proofs.Moving.{held_in, forth_on, way_starts, next_put, asks, asks_round, wraps, counts, falls, arrives, goes_on}
+use Rattle.rings.proofs.Moving.{held_in, forth_on, way_starts, next_put, asks, wraps, counts, falls, arrives, goes_on}
 use Rattle.rings.proofs.next_word.Goals as goal
 
 pub loop-l-init : goal.loop-l-init
@@ -11,13 +11,6 @@ loop-l-init c = let h = c.requires in way_starts h (forth_on h)
 
 pub next-l-requires : goal.next-l-requires
 next-l-requires c = let h = c.requires in let r = limits c.args.s in asks (forth_on h) (held_in h) c.loop-l.invariant r.two r.most
-
-pub put_first-requires : goal.put_first-requires
-put_first-requires c =
-    let h = c.requires in
-    let g = c.loop-l.invariant in
-    let r = limits c.args.s in
-    asks_round (forth_on h) (held_in h) g (next_put g c.next-l.ensures) r.some c.if-l-eq0.true
 
 pub returns-then-l-eq0 : goal.returns-then-l-eq0
 returns-then-l-eq0 c =

@@ -3,7 +3,7 @@ use native.Mathlib.Omega.{arith}
 use Rattle.shape.proofs.Limits.{limits}
 use Rattle.rings.specs.Moves.{last_word}
 use Rattle.rings.proofs.Ways.{last_of_lem}
-use Rattle.rings.proofs.Moving.{held_in, back_on_lem, way_starts, previous_put, asks_back, asks_round, wraps, counts, falls, arrives, goes_on}
+use Rattle.rings.proofs.Moving.{held_in, back_on_lem, way_starts, previous_put, asks_back, wraps, counts, falls, arrives, goes_on}
 use Rattle.rings.proofs.previous_word.Goals as goal
 
 pub loop-m-init : goal.loop-m-init
@@ -11,14 +11,6 @@ loop-m-init c = let h = c.requires in way_starts h (back_on_lem h)
 
 pub previous-m-requires : goal.previous-m-requires
 previous-m-requires c = let h = c.requires in let r = limits c.args.s in asks_back (back_on_lem h) (held_in h) c.loop-m.invariant r.two r.most
-
-pub put_last-requires : goal.put_last-requires
-put_last-requires c =
-    let h = c.requires in
-    let g = c.loop-m.invariant in
-    let r = limits c.args.s in
-    let (some, zeros) = asks_round (back_on_lem h) (held_in h) g (previous_put g c.previous-m.ensures) r.some c.if-m-eq0.true in
-    (r.two, r.most, some, zeros)
 
 pub returns-then-m-eq0 : goal.returns-then-m-eq0
 returns-then-m-eq0 c =
