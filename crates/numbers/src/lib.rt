@@ -27,7 +27,7 @@ pub fn get16(src: &[u8], at: usize) -> u64
     requires { at + 2 ≤ length src.now }
     ensures { result ≡ be at 2 src.now }
 {
-    u64::from(u16::from_be_bytes(*src[at..].first_chunk().unwrap()))
+    u64::from(u16::from_be_bytes([src[at], src[at + 1]]))
 }
 
 // The number in the 8 bytes from a place on.
@@ -35,5 +35,7 @@ pub fn get64(src: &[u8], at: usize) -> u64
     requires { at + 8 ≤ length src.now }
     ensures { result ≡ be at 8 src.now }
 {
-    u64::from_be_bytes(*src[at..].first_chunk().unwrap())
+    let mut bytes = [0; 8];
+    bytes.copy_from_slice(&src[at..at + 8]);
+    u64::from_be_bytes(bytes)
 }
