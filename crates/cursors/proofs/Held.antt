@@ -138,7 +138,7 @@ module _ {lengths : Lengths} {s : DH.Strip} {c : DC.Cursor} (g : GoodOn lengths 
   fine = good lengths {c = c} g.good
 
   pub held_short : c.n ≤ 60
-  held_short = omega (arith, (limits g.shaped).short, g.marks)
+  held_short = omega (arith, (limits s).short, g.marks)
 
   pub held_fits : c.n ≤ length c.word
   held_fits = omega (arith, held_short, fine.sixty)
@@ -148,7 +148,7 @@ module _ {lengths : Lengths} {s : DH.Strip} {c : DC.Cursor} (g : GoodOn lengths 
 
   pub word_short : c.long ≤ c.n
   word_short =
-      let some : 1 ≤ c.n = omega (arith, (limits g.shaped).some, g.marks) in
+      let some : 1 ≤ c.n = omega (arith, (limits s).some, g.marks) in
       divides_le c.long c.n some (ap (λ l. divides l c.n) (sym word-long) ∙ (allowed_of lengths c.n some).divisor _ fine.allowed)
 
   pub place_inside : c.place < c.long
@@ -163,7 +163,6 @@ module _ {lengths : Lengths} {s : DH.Strip} {c : DC.Cursor} (g : GoodOn lengths 
   pub held_on : HeldOn lengths s (take c.n c.word) c.long
   held_on =
       record {
-        shaped = g.shaped;
         size = length-take-le c.n c.word (omega (arith, held_short, fine.sixty)) ∙ sym g.marks;
         allowed = ap₂ (ok_of lengths) g.marks (sym word-long) ∙ fine.allowed;
         marks = ap₂ marks_ok g.letters same_word ∙ fine.marks;

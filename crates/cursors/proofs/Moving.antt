@@ -46,17 +46,17 @@ module _ {lengths : Lengths} {s : DH.Strip} {c : DC.Cursor} (g : GoodOn lengths 
   letter = sym (get_or-take c.long c.word c.place 0 (place_inside g))
 
   -- to another letter of its word
-  module _ {p : ℕ} {r : DT.Stepped} (e : (r.number ≡ 0) × (r.mark ≡ get_or c.word c.place 0) × (r.passed ≡ 0) × (r.cursor ≡ moved c p)) where
+  module _ {p : ℕ} {r : DT.Stepped} (e : (r.mark ≡ get_or c.word c.place 0) × (r.passed ≡ 0) × (r.cursor ≡ moved c p)) where
     stays : Is (cursor c.k c.n u p) r.cursor
-    stays = subst (Is (cursor c.k c.n u p)) (sym e.3) (refl, tidy_in (moved c p) (fine g).sixty (fine g).fits (fine g).zeroed)
+    stays = subst (Is (cursor c.k c.n u p)) (sym e.2) (refl, tidy_in (moved c p) (fine g).sixty (fine g).fits (fine g).zeroed)
 
     pub goes_inside : p ≡ c.place + 1 → p < c.long → Goes (step_in (ok_of lengths) (cursor_in c)) r
     goes_inside q h =
         let t : ltb (suc c.place) (length u) ≡ true = lt-ltb (suc c.place) (length u) (omega (arith, word-long g)) in
-        rw t (e.0, e.1 ∙ letter, e.2, subst (λ i. Is (cursor c.k c.n u i) r.cursor) (q ∙ add-one c.place) stays)
+        rw t (e.0 ∙ letter, e.1, subst (λ i. Is (cursor c.k c.n u i) r.cursor) (q ∙ add-one c.place) stays)
 
     pub backs_inside : p ≡ c.place - 1 → 0 < c.place → Goes (back_in (ok_of lengths) (cursor_in c)) r
-    backs_inside q h = rw (lt-ltb 0 c.place h) (e.0, e.1 ∙ letter, e.2, subst (λ i. Is (cursor c.k c.n u i) r.cursor) q stays)
+    backs_inside q h = rw (lt-ltb 0 c.place h) (e.0 ∙ letter, e.1, subst (λ i. Is (cursor c.k c.n u i) r.cursor) q stays)
 
   -- to another word v: it stands in a buffer of n bytes, and after it are the bytes that were there
   module _ {v w : List ℕ} {passes : ℕ} {m : DM.Moved} (put : MovedTo c.n v passes w m) (short : length v ≤ c.n) where
@@ -97,10 +97,10 @@ module _ {lengths : Lengths} {s : DH.Strip} {c : DC.Cursor} (g : GoodOn lengths 
     next_short = omega (arith, put.size, (leads-long (forth_on (held_on g))).1)
 
     pub goes_onward : c.long ≤ c.place + 1
-        → Goes (step_in (ok_of lengths) (cursor_in c)) (record { number = 0; mark = get_or c.word c.place 0; passed = m.passed; cursor = record { k = c.k; n = c.n; word = w ++ drop c.n c.word; long = m.long; place = 0 } })
+        → Goes (step_in (ok_of lengths) (cursor_in c)) (record { mark = get_or c.word c.place 0; passed = m.passed; cursor = record { k = c.k; n = c.n; word = w ++ drop c.n c.word; long = m.long; place = 0 } })
     goes_onward h =
         let t : ltb (suc c.place) (length u) ≡ false = le-ltb (suc c.place) (length u) (omega (arith, word-long g)) in
-        rw t (refl, letter, next_is.passed, holds next_is (omega (arith, next_is.size, next_short)) 0)
+        rw t (letter, next_is.passed, holds next_is (omega (arith, next_is.size, next_short)) 0)
 
   -- before its first letter, the word before
   module _ {w : List ℕ} {m : DM.Moved} (put : BackIs lengths s (take c.n c.word) c.long w m) where
@@ -111,7 +111,7 @@ module _ {lengths : Lengths} {s : DH.Strip} {c : DC.Cursor} (g : GoodOn lengths 
     previous_long = let (some, short) = leads-long (back_on_lem (held_on g)) in (omega (arith, put.size, some), omega (arith, put.size, short))
 
     pub backs_away : c.place ≤ 0
-        → Goes (back_in (ok_of lengths) (cursor_in c)) (record { number = 0; mark = get_or c.word c.place 0; passed = m.passed; cursor = record { k = c.k; n = c.n; word = w ++ drop c.n c.word; long = m.long; place = m.long - 1 } })
+        → Goes (back_in (ok_of lengths) (cursor_in c)) (record { mark = get_or c.word c.place 0; passed = m.passed; cursor = record { k = c.k; n = c.n; word = w ++ drop c.n c.word; long = m.long; place = m.long - 1 } })
     backs_away h =
         let (is, tidied) = holds previous_is (omega (arith, previous_is.size, previous_long.1)) (m.long - 1) in
-        rw (le-ltb 0 c.place h) (refl, letter, previous_is.passed, (is ∙ ap (λ i. cursor c.k c.n (previous_on (ok_of lengths c.n) (cursor_in c)) (i - 1)) previous_is.size, tidied))
+        rw (le-ltb 0 c.place h) (letter, previous_is.passed, (is ∙ ap (λ i. cursor c.k c.n (previous_on (ok_of lengths c.n) (cursor_in c)) (i - 1)) previous_is.size, tidied))

@@ -2,18 +2,17 @@
 // steps along it from mark to mark, on or back. It does not say which ring: each call does.
 #![tactic(auto)]
 
-ghost use Rattle.std.specs.Prelude.{◌≡◌, true, ◌&&◌, ◌<◌};
+ghost use Rattle.std.specs.Prelude.{◌≡◌, ◌&&◌, ◌<◌};
 ghost use Rattle.theory.specs.Rings.{cursor_on, good_in, position_in, step_in, back_in};
-ghost use Rattle.shape.specs.Shapes.{Shaped};
 ghost use Rattle.shape.specs.Rings.{ok_of, size_in};
 ghost use Rattle.calls.specs.Checks.{Checks};
-ghost use Rattle.cursors.specs.Cursors.{cursor_in, tidy, empty, Is, fault_on, GoodOn, moved, Goes, StartOn, WhereOn, StepOn, BackOn, StartSays, WhereSays, StepSays, BackSays, ShortStartSays, ShortWhereSays, ShortStepSays, ShortBackSays};
+ghost use Rattle.cursors.specs.Cursors.{cursor_in, tidy, Is, fault_on, GoodOn, Goes, StartOn, WhereOn, StepOn, BackOn, StartSays, WhereSays, StepSays, BackSays, ShortStartSays, ShortWhereSays, ShortStepSays, ShortBackSays};
 
-use calls::{Checked, Value, refusals};
+use calls::Refusal;
 use shape::{Lengths, Strip};
 
 // The held word in the first `long` of 60 bytes with zeros after it; `place` is the place in it.
-#[derive(Clone, Copy)]
+#[derive(Clone, Copy, PartialEq, Eq)]
 pub struct Cursor {
     pub k: u8,
     pub n: u8,
@@ -22,15 +21,9 @@ pub struct Cursor {
     pub place: u8,
 }
 
-#[derive(Clone, Copy)]
-pub struct Started {
-    pub number: u8,
-    pub cursor: Cursor,
-}
-
+// The mark that a cursor stood on, the words passed, and where it stands then.
 #[derive(Clone, Copy)]
 pub struct Stepped {
-    pub number: u8,
     pub mark: u8,
     pub passed: u64,
     pub cursor: Cursor,
@@ -59,76 +52,51 @@ fn is_good(lengths: Lengths, c: Cursor) -> bool
 }
 
 // The cursor's strip, or its fault on the ring.
-fn check(lengths: Lengths, c: Cursor) -> Checked
+fn check(lengths: Lengths, c: Cursor) -> Result<Strip, Refusal>
     ensures { Checks (fault_on lengths c) c.k c.n result }
 {
-    match calls::check_strip(c.k as u64, c.n as u64) {
-        Checked::Refused(number) => Checked::Refused(number),
-        Checked::Strip(strip) => {
-            if is_good(lengths, c) {
-                return Checked::Strip(strip);
-            }
-            Checked::Refused(refusals::LOST_CURSOR)
-        }
+    let strip = calls::check_strip(c.k as u64, c.n as u64)?;
+    if is_good(lengths, c) {
+        return Ok(strip);
     }
+    Err(Refusal::LostCursor)
 }
 
 // The cursor at a place that is on the ring.
-fn start_at(lengths: Lengths, s: Strip, place: u64) -> Started
-    requires { Shaped s × (place < size_in lengths s) }
-    ensures { (result.number ≡ 0) × Is (cursor_on (ok_of lengths s.n) s.k s.n place) result.cursor }
+fn start_at(lengths: Lengths, s: Strip, place: u64) -> Cursor
+    requires { place < size_in lengths s }
+    ensures { Is (cursor_on (ok_of lengths s.n) s.k s.n place) result }
 {
     let mut room = [0u8; Strip::LONGEST];
     let mut word = [0u8; Strip::LONGEST];
     let marks = s.n as usize;
     let spot = access::hold(lengths, s, place, &mut room[..marks], &mut word);
-    Started {
-        number: 0,
-        cursor: Cursor {
-            k: s.k as u8,
-            n: s.n as u8,
-            word,
-            long: spot.long as u8,
-            place: spot.at as u8,
-        },
-    }
-}
-
-// A refused start: zero in every field.
-fn refused_start(number: u8) -> Started
-    ensures { (result.number ≡ number) × (empty result.cursor ≡ true) }
-{
-    Started {
-        number,
-        cursor: Cursor {
-            k: 0,
-            n: 0,
-            word: [0; Strip::LONGEST],
-            long: 0,
-            place: 0,
-        },
+    Cursor {
+        k: s.k as u8,
+        n: s.n as u8,
+        word,
+        long: spot.long as u8,
+        place: spot.at as u8,
     }
 }
 
 // The cursor at a place of a ring.
-fn start_on(lengths: Lengths, k: u64, n: u64, place: u64) -> Started
+fn start_on(lengths: Lengths, k: u64, n: u64, place: u64) -> Result<Cursor, Refusal>
     ensures { StartOn lengths k n place result }
 {
-    match bounds::check_place(lengths, k, n, place) {
-        Checked::Refused(number) => refused_start(number),
-        Checked::Strip(strip) => start_at(lengths, strip, place),
-    }
+    let strip = bounds::check_place(lengths, k, n, place)?;
+    Ok(start_at(lengths, strip, place))
 }
 
 // The cursor at a place of the strip.
-pub fn start_cursor(k: u64, n: u64, place: u64) -> Started
+pub fn start_cursor(k: u64, n: u64, place: u64) -> Result<Cursor, Refusal>
     ensures { StartSays k n place result }
 {
     start_on(Lengths::Divisors, k, n, place)
 }
 
 // The cursor at a place of the short ring.
-pub fn short_start_cursor(k: u64, n: u64, place: u64) -> Started
+pub fn short_start_cursor(k: u64, n: u64, place: u64) -> Result<Cursor, Refusal>
     ensures { ShortStartSays k n place result }
 {
     start_on(Lengths::Whole, k, n, place)
@@ -151,61 +119,25 @@ fn place_on(lengths: Lengths, s: Strip, c: Cursor) -> u64
 }
 
 // The place of the ring that any cursor stands on.
-fn where_on(lengths: Lengths, c: Cursor) -> Value
+fn where_on(lengths: Lengths, c: Cursor) -> Result<u64, Refusal>
     ensures { WhereOn lengths c result }
 {
-    match check(lengths, c) {
-        Checked::Refused(number) => Value { number, value: 0 },
-        Checked::Strip(strip) => Value {
-            number: 0,
-            value: place_on(lengths, strip, c),
-        },
-    }
+    let strip = check(lengths, c)?;
+    Ok(place_on(lengths, strip, c))
 }
 
 // The place of the strip that the cursor stands on.
-pub fn cursor_place(c: Cursor) -> Value
+pub fn cursor_place(c: Cursor) -> Result<u64, Refusal>
     ensures { WhereSays c result }
 {
     where_on(Lengths::Divisors, c)
 }
 
 // The place of the short ring that the cursor stands on.
-pub fn short_cursor_place(c: Cursor) -> Value
+pub fn short_cursor_place(c: Cursor) -> Result<u64, Refusal>
     ensures { ShortWhereSays c result }
 {
     where_on(Lengths::Whole, c)
-}
-
-// A refused step leaves the cursor as it is.
-fn lost(number: u8, c: Cursor) -> Stepped
-    ensures { (result.number ≡ number) × (result.mark ≡ 0) × (result.passed ≡ 0) × (result.cursor ≡ c) }
-{
-    Stepped {
-        number,
-        mark: 0,
-        passed: 0,
-        cursor: c,
-    }
-}
-
-// To another place of the held word, which passes no word.
-fn within(c: Cursor, mark: u8, place: u8) -> Stepped
-    ensures { (result.number ≡ 0) × (result.mark ≡ mark) × (result.passed ≡ 0) × (result.cursor ≡ moved c place) }
-{
-    let word = c.word;
-    Stepped {
-        number: 0,
-        mark,
-        passed: 0,
-        cursor: Cursor {
-            k: c.k,
-            n: c.n,
-            word,
-            long: c.long,
-            place,
-        },
-    }
 }
 
 // To the next mark of the held word, or to the first of the ring's next word.
@@ -214,24 +146,25 @@ fn onward(lengths: Lengths, s: Strip, c: Cursor) -> Stepped
     ensures { Goes (step_in (ok_of lengths) (cursor_in c)) result }
 {
     let mut word = c.word;
-    let at = c.place as usize;
-    let mark = word[at];
+    let mark = word[c.place as usize];
     let next = c.place + 1;
     if next < c.long {
-        return within(c, mark, next);
+        return Stepped {
+            mark,
+            passed: 0,
+            cursor: Cursor { place: next, ..c },
+        };
     }
     let marks = c.n as usize;
     let moved = rings::next_word(lengths, s, &mut word[..marks], c.long as usize);
     Stepped {
-        number: 0,
         mark,
         passed: moved.passed,
         cursor: Cursor {
-            k: c.k,
-            n: c.n,
             word,
             long: moved.long as u8,
             place: 0,
+            ..c
         },
     }
 }
@@ -242,73 +175,71 @@ fn backward(lengths: Lengths, s: Strip, c: Cursor) -> Stepped
     ensures { Goes (back_in (ok_of lengths) (cursor_in c)) result }
 {
     let mut word = c.word;
-    let at = c.place as usize;
-    let mark = word[at];
+    let mark = word[c.place as usize];
     if 0 < c.place {
-        let before = c.place - 1;
-        return within(c, mark, before);
+        return Stepped {
+            mark,
+            passed: 0,
+            cursor: Cursor {
+                place: c.place - 1,
+                ..c
+            },
+        };
     }
     let marks = c.n as usize;
     let led = rings::previous_word(lengths, s, &mut word[..marks], c.long as usize);
     let long = led.long as u8;
-    let last = long - 1;
     Stepped {
-        number: 0,
         mark,
         passed: led.passed,
         cursor: Cursor {
-            k: c.k,
-            n: c.n,
             word,
             long,
-            place: last,
+            place: long - 1,
+            ..c
         },
     }
 }
 
 // A step along the ring.
-fn step_on(lengths: Lengths, c: Cursor) -> Stepped
+fn step_on(lengths: Lengths, c: Cursor) -> Result<Stepped, Refusal>
     ensures { StepOn lengths c result }
 {
-    match check(lengths, c) {
-        Checked::Refused(number) => lost(number, c),
-        Checked::Strip(strip) => onward(lengths, strip, c),
-    }
+    let strip = check(lengths, c)?;
+    Ok(onward(lengths, strip, c))
 }
 
 // A step back along the ring.
-fn back_on(lengths: Lengths, c: Cursor) -> Stepped
+fn back_on(lengths: Lengths, c: Cursor) -> Result<Stepped, Refusal>
     ensures { BackOn lengths c result }
 {
-    match check(lengths, c) {
-        Checked::Refused(number) => lost(number, c),
-        Checked::Strip(strip) => backward(lengths, strip, c),
-    }
+    let strip = check(lengths, c)?;
+    Ok(backward(lengths, strip, c))
 }
 
 impl Cursor {
     // The mark that the cursor stands on, the words passed, and the cursor on the strip's next mark.
-    pub fn step(self) -> Stepped
+    pub fn step(self) -> Result<Stepped, Refusal>
         ensures { StepSays self result }
     {
         step_on(Lengths::Divisors, self)
     }
 
     // The mark that the cursor stands on, the words passed backwards, and the cursor on the strip's mark before.
-    pub fn step_back(self) -> Stepped
+    pub fn step_back(self) -> Result<Stepped, Refusal>
         ensures { BackSays self result }
     {
         back_on(Lengths::Divisors, self)
     }
 
     // The same two on the short ring. All Lyndon words that are passed count, also those that this ring leaves out.
-    pub fn short_step(self) -> Stepped
+    pub fn short_step(self) -> Result<Stepped, Refusal>
         ensures { ShortStepSays self result }
     {
         step_on(Lengths::Whole, self)
     }
 
-    pub fn short_step_back(self) -> Stepped
+    pub fn short_step_back(self) -> Result<Stepped, Refusal>
         ensures { ShortBackSays self result }
     {
         back_on(Lengths::Whole, self)
@@ -316,7 +247,7 @@ impl Cursor {
 }
 
 // The step on the strip, as a function.
-pub fn step_cursor(c: Cursor) -> Stepped
+pub fn step_cursor(c: Cursor) -> Result<Stepped, Refusal>
     ensures { StepSays c result }
 {
     c.step()

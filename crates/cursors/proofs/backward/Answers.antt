@@ -6,11 +6,8 @@ use Rattle.cursors.proofs.Held.{held_short, held_fits, place_small, held_on}
 use Rattle.cursors.proofs.Moving.{backs_inside, previous_long, backs_away}
 use Rattle.cursors.proofs.backward.Goals as goal
 
-pub bounds-word-at : goal.bounds-word-at
-bounds-word-at c = place_small c.requires
-
 pub returns-then-c-gt0 : goal.returns-then-c-gt0
-returns-then-c-gt0 c = backs_inside c.requires c.within.ensures refl (omega arith)
+returns-then-c-gt0 c = backs_inside c.requires (refl, refl, refl) refl (omega arith)
 
 pub slice_bounds-word-end : goal.slice_bounds-word-end
 slice_bounds-word-end c = held_fits c.requires
@@ -26,8 +23,8 @@ pub overflow_cast-long : goal.overflow_cast-long
 overflow_cast-long c =
     omega (arith, (previous_long c.requires c.previous_word-led.ensures).1, held_short c.requires)
 
-pub overflow_sub-last : goal.overflow_sub-last
-overflow_sub-last c = omega (arith, (previous_long c.requires c.previous_word-led.ensures).0)
+pub overflow_sub-result-2 : goal.overflow_sub-result-2
+overflow_sub-result-2 c = omega (arith, (previous_long c.requires c.previous_word-led.ensures).0)
 
 pub returns : goal.returns
 returns c = backs_away c.requires c.previous_word-led.ensures (omega arith)

@@ -6,16 +6,12 @@ use Rattle.cursors.proofs.Held.{held_short, held_fits, place_small, held_on}
 use Rattle.cursors.proofs.Moving.{goes_inside, next_short, goes_onward}
 use Rattle.cursors.proofs.onward.Goals as goal
 
--- a word of the ring fits into the buffer, and the place is in it
-pub bounds-word-at : goal.bounds-word-at
-bounds-word-at c = place_small c.requires
-
 pub overflow_add-next : goal.overflow_add-next
 overflow_add-next c = omega (arith, place_small c.requires)
 
 pub returns-then-next-c : goal.returns-then-next-c
 returns-then-next-c c =
-    goes_inside c.requires c.within.ensures refl (omega arith)
+    goes_inside c.requires (refl, refl, refl) refl (omega arith)
 
 pub slice_bounds-word-end : goal.slice_bounds-word-end
 slice_bounds-word-end c = held_fits c.requires
