@@ -20,11 +20,10 @@ use Rattle.shape.specs.Rings.{ok_of}
 use Rattle.shape.proofs.Limits.{limits}
 use Rattle.calls.specs.declared.refusal.Refusal.{Refusal}
 use Rattle.calls.specs.Codes.{code, number_of}
-use Rattle.calls.specs.Checks.{StripOf}
 use Rattle.calls.proofs.Answers.{code_some}
 use Rattle.cursors.specs.declared.Cursor as DC
 use Rattle.cursors.specs.declared.Stepped as DT
-use Rattle.cursors.specs.Cursors.{all_zero, cursor_in, tidy, empty, Is, Starts, cursor_of, fault_on, GoodOn, MoveSays, mark_of, passed_of, after}
+use Rattle.cursors.specs.Cursors.{all_zero, cursor_in, tidy, empty, Is, Starts, cursor_of, fault_on, MoveSays, mark_of, passed_of, after}
 use Rattle.cursors.proofs.Held.{zeros, zeros_drop, tidy_in}
 
 -- what no fault says: an admitted strip, and fields that are good
@@ -32,10 +31,6 @@ pub faultless_says : (lengths : Lengths) (c : DC.Cursor) → fault_on lengths c 
 faultless_says lengths c z =
     let (strip, held) = first_none (strip_fault c.k c.n) _ z in
     (strip, not-false _ (when-none (not (tidy c && good_in (ok_of lengths) (cursor_in c))) 10 (λ e. omega arith) held))
-
--- a cursor that passed it
-pub good_on_lem : (lengths : Lengths) (c : DC.Cursor) {s : DH.Strip} → (fault_on lengths c ≡ 0) × StripOf c.k c.n s → GoodOn lengths s c
-good_on_lem lengths c e = record { letters = e.1.0; marks = e.1.1; good = (faultless_says lengths c e.0).1 }
 
 -- the word put over zeros, with its length and the place in it
 pub started_at : {lengths : Lengths} (s : DH.Strip) {p : ℕ} {w : List ℕ} {r : DP.Spot} → length w ≡ 60 → PutAt lengths s p (replicate 60 0) w r
@@ -50,7 +45,13 @@ pub start_told : (f : ℕ) (x : Cursor) (r : Result DC.Cursor Refusal) → Start
 start_told f x (Ok c) (z, e) = rw z (refl, e)
 start_told f x (Err e) h = rw (sym h, ne_eqb (code e) 0 (code_some e)) (refl, refl)
 
-pub move_told : (f : ℕ) (x : Stepped) (c : DC.Cursor) (r : Result DT.Stepped Refusal) → MoveSays f x r
-    → (number_of r ≡ f) × (mark_of r ≡ pick (eqb f 0) x.mark 0) × (passed_of r ≡ pick (eqb f 0) x.passed 0) × PickT (eqb f 0) (Is x.cursor_is (after c r)) (after c r ≡ c)
+abbrev pub MoveTold : ℕ → Stepped → DC.Cursor → Result DT.Stepped Refusal → Type 0
+MoveTold f x c r =
+    (number_of r ≡ f)
+    × (mark_of r ≡ pick (eqb f 0) x.mark 0)
+    × (passed_of r ≡ pick (eqb f 0) x.passed 0)
+    × PickT (eqb f 0) (Is x.cursor_is (after c r)) (after c r ≡ c)
+
+pub move_told : (f : ℕ) (x : Stepped) (c : DC.Cursor) (r : Result DT.Stepped Refusal) → MoveSays f x r → MoveTold f x c r
 move_told f x c (Ok q) (z, e) = rw z (refl, e.0, e.1, e.2)
 move_told f x c (Err e) h = rw (sym h, ne_eqb (code e) 0 (code_some e)) (refl, refl, refl, refl)

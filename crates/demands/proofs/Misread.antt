@@ -22,7 +22,6 @@ use Rattle.theory.proofs.Substitutions.{changed-length, misread_in, in_misread, 
 use Rattle.shape.proofs.Limits.{Limits, admitted_limits}
 use Rattle.buffers.specs.Buffers.{over}
 use Rattle.numbers.proofs.Numbers.{put-read}
-use Rattle.calls.specs.declared.Value as DV
 use Rattle.calls.specs.Answers.{Into}
 use Rattle.calls.proofs.Answers.{or_room}
 use Rattle.substitutions.specs.Entries.{entry_bytes, list_bytes}
@@ -30,6 +29,9 @@ use Rattle.substitutions.proofs.Writing.{entries_long}
 use Rattle.misreadings.specs.Says.{entries_of, MisreadingsSays, MisreadingListSays}
 use Rattle.demands.specs.Demands.{Nearby, change_in, new_place_in, ListTold}
 use Rattle.demands.proofs.Trays.{into_fine, answered, tray_back}
+use Rattle.calls.specs.declared.refusal.Refusal.{Refusal}
+use Rattle.calls.specs.Codes.{number_of, value_of}
+use Rattle.std.specs.Prelude.{Result}
 
 -- the bytes of a list from entry i on begin with that entry
 entry_at : (s w : List ℕ) (cs : List Change) (rest : List ℕ) (i : ℕ) → i < length cs
@@ -105,30 +107,30 @@ module _ (s w : List ℕ) (fine : lookup_fault s w ≡ 0) where
           | index i h e ↦ let (is, leads) = told_at i h in (i, h, is ∙ e, leads ∙ ap (new_place s w) e ∙ place)
         ]
 
-pub misread_told : (s w t t' : List ℕ) (r : DV.Value) → MisreadingsSays s w t t' r → r.number ≡ 0 → ListTold s w t t' r.value
+pub misread_told : (s w t t' : List ℕ) (r : Result ℕ Refusal) → MisreadingsSays s w t t' r → number_of r ≡ 0 → ListTold s w t t' (value_of r)
 misread_told s w t t' r e z =
     let (fine, tray) = answered (lookup_fault s w) (entries_of s w) t e.0 z in
-    let value : r.value ≡ length (misread s w) = (rw z at e).1 in
+    let value : value_of r ≡ length (misread s w) = (rw z at e).1 in
     subst (ListTold s w t t') (sym value) (told s w fine t tray)
 
 -- a window that is laid is answered
-pub misread_answers : (s : List ℕ) (p : ℕ) (t t' : List ℕ) (r : DV.Value) → plan_fault s ≡ 0 → laid_at s p ≡ true → 3850 ≤ length t
-    → MisreadingsSays s (window (shades s) (marks s) p) t t' r → r.number ≡ 0
+pub misread_answers : (s : List ℕ) (p : ℕ) (t t' : List ℕ) (r : Result ℕ Refusal) → plan_fault s ≡ 0 → laid_at s p ≡ true → 3850 ≤ length t
+    → MisreadingsSays s (window (shades s) (marks s) p) t t' r → number_of r ≡ 0
 misread_answers s p t t' r good laid room e =
     let w = window (shades s) (marks s) p in
     let fine = laid_window s p good laid in
     (into_fine (lookup_fault s w) (entries_of s w) t fine (omega (arith, entries_long s w (misread s w), list_short s w fine)) e.0).0
 
 -- the two calls
-pub misread_both : (s w c c' t t' u : List ℕ) (r : DV.Value) (q : ℕ) → 8 ≤ length c → MisreadingsSays s w t t' r → MisreadingListSays s w c c' t u q
-    → (q ≡ r.number) × (u ≡ t') × (q ≡ 0 → be 0 8 c' ≡ r.value)
+pub misread_both : (s w c c' t t' u : List ℕ) (r : Result ℕ Refusal) (q : ℕ) → 8 ≤ length c → MisreadingsSays s w t t' r → MisreadingListSays s w c c' t u q
+    → (q ≡ number_of r) × (u ≡ t') × (q ≡ 0 → be 0 8 c' ≡ value_of r)
 misread_both s w c c' t t' u r q room e f =
     let list : Into (lookup_fault s w) (pick (eqb (lookup_fault s w) 0) (entries_of s w) []) t u q = subst (λ g. Into g (pick (eqb g 0) (entries_of s w) []) t u q) (or_room (lookup_fault s w) c room) f.0 in
-    let number : q ≡ r.number = list.0 ∙ sym e.0.0 in
+    let number : q ≡ number_of r = list.0 ∙ sym e.0.0 in
     (number, list.1 ∙ sym e.0.1, λ z. count list z (sym number ∙ z))
   where
-    count : Into (lookup_fault s w) (pick (eqb (lookup_fault s w) 0) (entries_of s w) []) t u q → q ≡ 0 → r.number ≡ 0 → be 0 8 c' ≡ r.value
+    count : Into (lookup_fault s w) (pick (eqb (lookup_fault s w) 0) (entries_of s w) []) t u q → q ≡ 0 → number_of r ≡ 0 → be 0 8 c' ≡ value_of r
     count list z y =
         let (fine, _) = answered (lookup_fault s w) (entries_of s w) t list z in
-        let value : r.value ≡ length (misread s w) = (rw y at e).1 in
+        let value : value_of r ≡ length (misread s w) = (rw y at e).1 in
         tray_back (length (misread s w)) c (omega (arith, list_short s w fine)) (rw z at f).1 ∙ sym value

@@ -11,7 +11,6 @@ use Rattle.theory.specs.Words.{repeated}
 use Rattle.theory.specs.Strips.{admitted}
 use Rattle.theory.specs.Plans.{be}
 use Rattle.theory.proofs.Rings.{admitted_range}
-use Rattle.calls.specs.declared.Value as DV
 use Rattle.calls.specs.Refusals.{picture_fault}
 use Rattle.calls.specs.Answers.{or_short}
 use Rattle.calls.proofs.Answers.{or_room}
@@ -29,6 +28,9 @@ use Rattle.pictures.proofs.Requesting.{by_rows}
 use Rattle.demands.proofs.Faults.{picture_faultless}
 use Rattle.demands.proofs.Trays.{into_fine, beside_fine, tray_back}
 use Rattle.demands.proofs.Marks.{printed}
+use Rattle.calls.specs.declared.refusal.Refusal.{Refusal}
+use Rattle.calls.specs.Codes.{number_of, value_of}
+use Rattle.std.specs.Prelude.{Result}
 
 -- what can be drawn on a strip of two shades
 module _ (n p c h : ℕ) (a : admitted 2 n ≡ true) (l : p < 2 ^ n) (frame : Frame c h) where
@@ -41,13 +43,13 @@ module _ (n p c h : ℕ) (a : admitted 2 n ≡ true) (l : p < 2 ^ n) (frame : Fr
   size : length file ≡ file_size c h
   size = file-size 2 n p c h frame.some
 
-  pub picture-back : (t t' u u' : List ℕ) (r : DV.Value) (q : ℕ) → file_size c h ≤ length t → c ≤ length u → PictureSays 2 n p c h t t' r → PrintSays 2 n p c u u' q
-      → (r.number ≡ 0) × (r.value ≡ file_size c h) × (q ≡ 0)
-      × (read_picture (take r.value t') ≡ record { plain = true; width = c; height = h; marks = repeated h (take c u') })
+  pub picture-back : (t t' u u' : List ℕ) (r : Result ℕ Refusal) (q : ℕ) → file_size c h ≤ length t → c ≤ length u → PictureSays 2 n p c h t t' r → PrintSays 2 n p c u u' q
+      → (number_of r ≡ 0) × (value_of r ≡ file_size c h) × (q ≡ 0)
+      × (read_picture (take (value_of r) t') ≡ record { plain = true; width = c; height = h; marks = repeated h (take c u') })
   picture-back t t' u u' r q x y e f =
       let (number, value, is) = beside_fine (picture_fault 2 n p c h) (length file) file t fine (omega (arith, size)) e in
       let (done, marks, _) = printed Divisors 2 n p c u u' q a l y f in
-      let whole : take r.value t' ≡ file = ap₂ take value is ∙ take_at file _ (length file) refl in
+      let whole : take (value_of r) t' ≡ file = ap₂ take value is ∙ take_at file _ (length file) refl in
       let read = ap read_picture whole ∙ back 2 n p c h (omega arith) (omega arith) (admitted_range 2 n a).1 in
       (number, value ∙ size, done, read ∙ ap (λ w. record { plain = true; width = c; height = h; marks = repeated h w }) (sym marks))
 

@@ -29,11 +29,11 @@ use Rattle.buffers.specs.Buffers.{over}
 use Rattle.numbers.specs.Numbers.{put_be}
 use Rattle.buffers.proofs.Bytes.{over-length}
 use Rattle.numbers.proofs.Numbers.{put-read}
-use Rattle.calls.specs.declared.Value as DV
 use Rattle.calls.specs.Answers.{Into, IntoValue, or_short, IntoBoth, Number, ValueIs}
 use Rattle.calls.specs.Refusals.{the_word_fault, short_window_fault, index_fault, ring_fault, picture_fault, bill_fault}
-use Rattle.calls.proofs.Answers.{number_answer}
-use Rattle.ranking.proofs.Indexes.{index_range, index_long}
+use Rattle.calls.proofs.Answers.{number_answer, value_told}
+use Rattle.theory.proofs.Ranks.{undone}
+use Rattle.demands.proofs.Faults.{index_range}
 use Rattle.words.specs.Says.{RotationSays, TurnSays}
 use Rattle.ranking.specs.Says.{RankSays, WordSays}
 use Rattle.marks.specs.Says.{MarkOn, PlaceSays, ShortPlaceSays, PrintOn}
@@ -45,6 +45,9 @@ use Rattle.substitutions.proofs.Writing.{entries_long}
 use Rattle.misreadings.specs.Says.{entries_of, list_size, MisreadingsSays, MisreadingListSays}
 use Rattle.bills.specs.Says.{BillOfSays}
 use Rattle.demands.specs.Trays.{Keeps, Trays}
+use Rattle.calls.specs.declared.refusal.Refusal.{Refusal}
+use Rattle.calls.specs.Codes.{number_of, value_of}
+use Rattle.std.specs.Prelude.{Result}
 
 -- no fault, so the answer over the start of the tray
 pub into_fine : (f : ℕ) (b t : List ℕ) {t' : List ℕ} {r : ℕ} → f ≡ 0 → length b ≤ length t → Into f (pick (eqb f 0) b []) t t' r → (r ≡ 0) × (t' ≡ over b t)
@@ -60,23 +63,22 @@ pub tray_back : (v : ℕ) (t : List ℕ) {t' : List ℕ} → v < 2 ^ 64 → t' �
 tray_back v t h e = ap (be 0 8) e ∙ number_back v h
 
 -- a number and a value, without fault and with one
-pub value_fine : {f v : ℕ} {r : DV.Value} → f ≡ 0 → ValueIs f v r → (r.number ≡ 0) × (r.value ≡ v)
-value_fine {v = v} {r = r} h e = subst (λ x. ValueIs x v r) h e
+pub value_fine : {f v : ℕ} (r : Result ℕ Refusal) → f ≡ 0 → ValueIs f v r → (number_of r ≡ 0) × (value_of r ≡ v)
+value_fine {f} {v} r h e = let t = value_told f v r e in (t.0 ∙ h, t.1 ∙ ap (λ x. pick (eqb x 0) v 0) h)
 
-pub no_value : (f v : ℕ) (r : DV.Value) → ValueIs f v r → r.number ≢ 0 → r.value ≡ 0
-no_value zero v r e h = absurd (h e.0)
-no_value (suc f) v r e h = rw (ne_eqb (suc f) 0 (λ z. omega arith)) at e.1
+pub no_value : (f v : ℕ) (r : Result ℕ Refusal) → ValueIs f v r → number_of r ≢ 0 → value_of r ≡ 0
+no_value f v r e h = let t = value_told f v r e in t.1 ∙ ap (λ x. pick x v 0) (ne_eqb f 0 (λ z. h (t.0 ∙ z)))
 
 -- bytes in a tray and a value beside them
-pub beside_fine : (f v : ℕ) (b t : List ℕ) {t' : List ℕ} {r : DV.Value} → f ≡ 0 → length b ≤ length t → IntoValue f v (pick (eqb f 0) b []) t t' r
-    → (r.number ≡ 0) × (r.value ≡ v) × (t' ≡ over b t)
+pub beside_fine : (f v : ℕ) (b t : List ℕ) {t' : List ℕ} {r : Result ℕ Refusal} → f ≡ 0 → length b ≤ length t → IntoValue f v (pick (eqb f 0) b []) t t' r
+    → (number_of r ≡ 0) × (value_of r ≡ v) × (t' ≡ over b t)
 beside_fine f v b t h l e =
     let (number, is) = into_fine f b t h l e.0 in
     let value = (rw number at e).1 in
     (number, value, is)
 
-pub no_value_beside : (f v : ℕ) (b t t' : List ℕ) (r : DV.Value) → IntoValue f v b t t' r → r.number ≢ 0 → r.value ≡ 0
-no_value_beside f v b t t' r e h = rw (ne_eqb r.number 0 h) at e.1
+pub no_value_beside : (f v : ℕ) (b t t' : List ℕ) (r : Result ℕ Refusal) → IntoValue f v b t t' r → number_of r ≢ 0 → value_of r ≡ 0
+no_value_beside f v b t t' r e h = rw (ne_eqb (number_of r) 0 h) at e.1
 
 -- places, ranks and counts stay below 2^64
 pub small : (k n : ℕ) {v : ℕ} → admitted k n ≡ true → v ≤ k ^ n → v < 2 ^ 64
@@ -138,10 +140,10 @@ rotation_long : (k n : ℕ) (w : List ℕ) → the_word_fault k n w ≡ 0 → le
 rotation_long k n w z = smallest-length w ∙ word-long k n w z
 
 index_word_long : (k n i : ℕ) → index_fault k n i ≡ 0 → length (word_of k n i) ≡ n
-index_word_long k n i z = let (some, few) = index_range k n i z in index_long k n i some few
+index_word_long k n i z = let (some, few) = index_range k n i z in (undone.index_word k n i some few).0
 
 -- each call with a tray
-pub rotation_answers : (k n : ℕ) (w t t' : List ℕ) (r : DV.Value) → RotationSays k n w t t' r → Answers n (the_word_fault k n w) t t' r.number
+pub rotation_answers : (k n : ℕ) (w t t' : List ℕ) (r : Result ℕ Refusal) → RotationSays k n w t t' r → Answers n (the_word_fault k n w) t t' (number_of r)
 rotation_answers k n w t t' r e = answers (smallest w) (rotation_long k n w) e.0
 
 pub turn_answers : (k n : ℕ) (w t t' : List ℕ) (r : ℕ) → TurnSays k n w t t' r → Answers 8 (the_word_fault k n w) t t' r
@@ -168,7 +170,7 @@ print_answers lengths k n p c t t' r e =
     answers (letters_of lengths k n p c) (λ _. long) (print_into (ring_fault lengths k n p) c (letters_of lengths k n p c) t t' r long e)
 
 -- a picture's file
-pub picture_answers : (k n p c h : ℕ) (t t' : List ℕ) (r : DV.Value) → PictureSays k n p c h t t' r → Answers (file_size c h) (picture_fault k n p c h) t t' r.number
+pub picture_answers : (k n p c h : ℕ) (t t' : List ℕ) (r : Result ℕ Refusal) → PictureSays k n p c h t t' r → Answers (file_size c h) (picture_fault k n p c h) t t' (number_of r)
 picture_answers k n p c h t t' r e = answers (picture k n p c h) (file-long k n p c h) e.0
 
 -- an answer with its value in another tray, of which a value that does not fit counts as a fault: what stays in that tray
@@ -192,7 +194,7 @@ pub smudged_answers : (s w t t' : List ℕ) (r : ℕ) → SmudgedSays s w t t' r
 smudged_answers s w t t' r e = answers (answer_at s (lowest s w)) (λ _. refl) e
 
 -- a list of misreadings
-pub misreadings_answers : (s w t t' : List ℕ) (r : DV.Value) → MisreadingsSays s w t t' r → Answers (list_size s w) (lookup_fault s w) t t' r.number
+pub misreadings_answers : (s w t t' : List ℕ) (r : Result ℕ Refusal) → MisreadingsSays s w t t' r → Answers (list_size s w) (lookup_fault s w) t t' (number_of r)
 misreadings_answers s w t t' r e = answers (entries_of s w) (λ _. entries_long s w (misread s w)) e.0
 
 pub misreadings_of_answers : (s w c c' t t' : List ℕ) (r : ℕ) → MisreadingListSays s w c c' t t' r → Answers (list_size s w) (or_short (lookup_fault s w) c) t t' r

@@ -24,17 +24,18 @@ use Rattle.theory.specs.Theorems.{Leads}
 use Rattle.theory.proofs.Cursors.{at_kept, step_kept, back_kept}
 use Rattle.theory.proofs.Reading.{modulo_small, modulo_lt, modulo-modulo, modulo-plus, modulo_suc, letters-modulo}
 use Rattle.shape.proofs.Limits.{Limits, admitted_limits, limits_admit}
-use Rattle.calls.specs.declared.Value as DV
 use Rattle.calls.specs.Refusals.{ring_fault}
-use Rattle.calls.proofs.Checks.{strip_admits}
-use Rattle.cursors.proofs.Told.{faultless_says}
+use Rattle.calls.proofs.Answers.{value_told}
+use Rattle.cursors.proofs.Told.{faultless_says, MoveTold, start_told, move_told}
 use Rattle.cursors.proofs.Held.{same_bytes, tidy_out}
 use Rattle.cursors.specs.declared.Cursor as DC
-use Rattle.cursors.specs.declared.Started as DS
 use Rattle.cursors.specs.declared.Stepped as DT
-use Rattle.cursors.specs.Cursors.{cursor_in, tidy, empty, Is, fault_on, cursor_fault, short_fault, StartOn, WhereOn, Goes, MoveSays}
+use Rattle.cursors.specs.Cursors.{mark_of, passed_of, after, cursor_of, cursor_in, tidy, empty, Is, fault_on, cursor_fault, short_fault, StartOn, WhereOn}
 use Rattle.demands.specs.Walked.{Says, passed_going, StepsOn, Walked, stays, steps, Followed, rests, goes as on-path, fields, held_at, passed_from, path_passed}
-use Rattle.demands.proofs.Faults.{strip_faultless, place_faultless}
+use Rattle.demands.proofs.Faults.{strip_faultless, strip_admits, place_faultless}
+use Rattle.calls.specs.declared.refusal.Refusal.{Refusal}
+use Rattle.calls.specs.Codes.{number_of, value_of}
+use Rattle.std.specs.Prelude.{Result}
 
 -- what a cursor without fault is, and back
 record Sound (lengths : Lengths) (c : DC.Cursor) : Type 0 where
@@ -54,28 +55,29 @@ faultless lengths k n c a letters marks tidied good =
     ap₂ (λ x b. first_of x (when (not b) 10)) none (and_in tidied good)
 
 -- a start
-pub started : (lengths : Lengths) (k n p : ℕ) (r : DS.Started) → admitted k n ≡ true → p < size_of lengths k n → StartOn lengths k n p r
-    → (r.number ≡ 0) × (r.cursor.k ≡ k) × (r.cursor.n ≡ n) × (fault_on lengths r.cursor ≡ 0) × (position_in (ok_of lengths) (cursor_in r.cursor) ≡ p)
+pub started : (lengths : Lengths) (k n p : ℕ) (r : Result DC.Cursor Refusal) → admitted k n ≡ true → p < size_of lengths k n → StartOn lengths k n p r
+    → (number_of r ≡ 0) × ((cursor_of r).k ≡ k) × ((cursor_of r).n ≡ n) × (fault_on lengths (cursor_of r) ≡ 0) × (position_in (ok_of lengths) (cursor_in (cursor_of r)) ≡ p)
 started lengths k n p r a h e =
     let l = admitted_limits k n a in
-    let (number, (is, tidied)) : (r.number ≡ 0) × Is (cursor_on (ok_of lengths n) k n p) r.cursor = rw (place_faultless lengths k n p a h) at e in
+    let (number, (is, tidied)) : (number_of r ≡ 0) × Is (cursor_on (ok_of lengths n) k n p) (cursor_of r) = rw (place_faultless lengths k n p a h) at (start_told (ring_fault lengths k n p) (cursor_on (ok_of lengths n) k n p) r e) in
     let kept = at_kept k n (ring_words (ok_of lengths n) k n) p in
     let (good, place) = (cursors_of lengths).there k n p l.two l.some h in
     let letters = ap (λ c. c.k) is ∙ kept.0 in
     let marks = ap (λ c. c.n) is ∙ kept.1 in
-    (number, letters, marks, faultless lengths k n r.cursor a letters marks tidied (ap (good_in (ok_of lengths)) is ∙ good), ap (position_in (ok_of lengths)) is ∙ place)
+    (number, letters, marks, faultless lengths k n (cursor_of r) a letters marks tidied (ap (good_in (ok_of lengths)) is ∙ good), ap (position_in (ok_of lengths)) is ∙ place)
 
-pub not_started : (lengths : Lengths) (k n p : ℕ) (r : DS.Started) → StartOn lengths k n p r → r.number ≢ 0 → empty r.cursor ≡ true
+pub not_started : (lengths : Lengths) (k n p : ℕ) (r : Result DC.Cursor Refusal) → StartOn lengths k n p r → number_of r ≢ 0 → empty (cursor_of r) ≡ true
 not_started lengths k n p r e h =
-    let other : eqb (ring_fault lengths k n p) 0 ≡ false = ne_eqb (ring_fault lengths k n p) 0 (λ z. h (e.0 ∙ z)) in
-    rw other at e.1
+    let t = start_told (ring_fault lengths k n p) (cursor_on (ok_of lengths n) k n p) r e in
+    let other : eqb (ring_fault lengths k n p) 0 ≡ false = ne_eqb (ring_fault lengths k n p) 0 (λ z. h (t.0 ∙ z)) in
+    rw other at t.1
 
 -- a place
-pub stands : (lengths : Lengths) (c : DC.Cursor) (v : DV.Value) → fault_on lengths c ≡ 0 → WhereOn lengths c v
-    → (v.number ≡ 0) × (v.value ≡ position_in (ok_of lengths) (cursor_in c)) × (v.value < size_of lengths c.k c.n)
+pub stands : (lengths : Lengths) (c : DC.Cursor) (v : Result ℕ Refusal) → fault_on lengths c ≡ 0 → WhereOn lengths c v
+    → (number_of v ≡ 0) × (value_of v ≡ position_in (ok_of lengths) (cursor_in c)) × (value_of v < size_of lengths c.k c.n)
 stands lengths c v h e =
     let s = sound lengths c h in
-    let (number, value) : (v.number ≡ 0) × (v.value ≡ position_in (ok_of lengths) (cursor_in c)) = rw h at e in
+    let (number, value) : (number_of v ≡ 0) × (value_of v ≡ position_in (ok_of lengths) (cursor_in c)) = rw h at (value_told (fault_on lengths c) (position_in (ok_of lengths) (cursor_in c)) v e) in
     (number, value, omega (arith, value, (cursors_of lengths).within (cursor_in c) s.limits.two s.limits.some s.good))
 
 -- a step: what its promise says where there is no fault, and where there is one
@@ -83,11 +85,11 @@ abbrev moved : Lengths → Bool → DC.Cursor → Stepped
 moved lengths true c = step_in (ok_of lengths) (cursor_in c)
 moved lengths false c = back_in (ok_of lengths) (cursor_in c)
 
-says : (lengths : Lengths) (way : Bool) (c : DC.Cursor) (q : DT.Stepped) → Says lengths way c q → MoveSays (fault_on lengths c) (moved lengths way c) c q
-says lengths true c q e = e
-says lengths false c q e = e
+says : (lengths : Lengths) (way : Bool) (c : DC.Cursor) (q : Result DT.Stepped Refusal) → Says lengths way c q → MoveTold (fault_on lengths c) (moved lengths way c) c q
+says lengths true c q e = move_told (fault_on lengths c) (moved lengths true c) c q e
+says lengths false c q e = move_told (fault_on lengths c) (moved lengths false c) c q e
 
-answers : (lengths : Lengths) (way : Bool) (c : DC.Cursor) (q : DT.Stepped) → fault_on lengths c ≡ 0 → Says lengths way c q → Goes (moved lengths way c) q
+answers : (lengths : Lengths) (way : Bool) (c : DC.Cursor) (q : Result DT.Stepped Refusal) → fault_on lengths c ≡ 0 → Says lengths way c q → (number_of q ≡ 0) × (mark_of q ≡ (moved lengths way c).mark) × (passed_of q ≡ (moved lengths way c).passed) × Is (moved lengths way c).cursor_is (after c q)
 answers lengths way c q h e = rw h at (says lengths way c q e)
 
 -- where it leads
@@ -101,42 +103,42 @@ kept : (lengths : Lengths) (way : Bool) (c : DC.Cursor) → ((moved lengths way 
 kept lengths true c = step_kept (ok_of lengths c.n) (cursor_in c)
 kept lengths false c = back_kept (ok_of lengths c.n) (cursor_in c)
 
-pub step : (lengths : Lengths) (way : Bool) (c : DC.Cursor) (q : DT.Stepped) → fault_on lengths c ≡ 0 → Says lengths way c q → StepsOn lengths way c q
+pub step : (lengths : Lengths) (way : Bool) (c : DC.Cursor) (q : Result DT.Stepped Refusal) → fault_on lengths c ≡ 0 → Says lengths way c q → StepsOn lengths way c q
 step lengths way c q h e =
     let s = sound lengths c h in
     let (number, mark, passed, (is, tidied)) = answers lengths way c q h e in
     let (reads, good, place, told, few) = leads lengths way s in
-    let letters : q.cursor.k ≡ c.k = ap (λ y. y.k) is ∙ (kept lengths way c).0 in
-    let marks : q.cursor.n ≡ c.n = ap (λ y. y.n) is ∙ (kept lengths way c).1 in
+    let letters : (after c q).k ≡ c.k = ap (λ y. y.k) is ∙ (kept lengths way c).0 in
+    let marks : (after c q).n ≡ c.n = ap (λ y. y.n) is ∙ (kept lengths way c).1 in
     record {
       number = number;
       mark = mark ∙ reads;
       passed = passed ∙ told ∙ ap (λ y. passed_going way c.k c.n (cursor_in c).word y.word) (sym is);
       few = omega (arith, passed, few);
       strip = (letters, marks);
-      faultless = faultless lengths c.k c.n q.cursor (limits_admit c.k c.n s.limits) letters marks tidied (ap (good_in (ok_of lengths)) is ∙ good);
+      faultless = faultless lengths c.k c.n (after c q) (limits_admit c.k c.n s.limits) letters marks tidied (ap (good_in (ok_of lengths)) is ∙ good);
       place = ap (position_in (ok_of lengths)) is ∙ place;
     }
 
-pub not_stepped : (lengths : Lengths) (way : Bool) (c : DC.Cursor) (q : DT.Stepped) → Says lengths way c q → q.number ≢ 0 → (q.mark ≡ 0) × (q.passed ≡ 0) × (q.cursor ≡ c)
+pub not_stepped : (lengths : Lengths) (way : Bool) (c : DC.Cursor) (q : Result DT.Stepped Refusal) → Says lengths way c q → number_of q ≢ 0 → (mark_of q ≡ 0) × (passed_of q ≡ 0) × (after c q ≡ c)
 not_stepped lengths way c q e h =
     let said = says lengths way c q e in
     let other : eqb (fault_on lengths c) 0 ≡ false = ne_eqb (fault_on lengths c) 0 (λ z. h (said.0 ∙ z)) in
     (rw other at said.1, rw other at said.2, rw other at said.3)
 
 -- a step and the step back
-there_back : (lengths : Lengths) (way : Bool) (c : DC.Cursor) (q b : DT.Stepped) → fault_on lengths c ≡ 0 → Says lengths way c q → Says lengths (not way) q.cursor b
-    → (b.number ≡ q.number) × (b.passed ≡ q.passed) × (b.cursor ≡ c)
+there_back : (lengths : Lengths) (way : Bool) (c : DC.Cursor) (q b : Result DT.Stepped Refusal) → fault_on lengths c ≡ 0 → Says lengths way c q → Says lengths (not way) (after c q) b
+    → (number_of b ≡ number_of q) × (passed_of b ≡ passed_of q) × (after (after c q) b ≡ c)
 there_back lengths way c q b h e f =
     let s = sound lengths c h in
     let g = step lengths way c q h e in
     let (number, _, passed, (is, _)) = answers lengths way c q h e in
-    let (number', _, passed', (is', tidied)) = answers lengths (not way) q.cursor b g.faultless f in
+    let (number', _, passed', (is', tidied)) = answers lengths (not way) (after c q) b g.faultless f in
     let (again, many) = undoes way s is in
-    (number' ∙ sym number, passed' ∙ many ∙ sym passed, same_bytes b.cursor c tidied s.tidied (is' ∙ again))
+    (number' ∙ sym number, passed' ∙ many ∙ sym passed, same_bytes (after (after c q) b) c tidied s.tidied (is' ∙ again))
   where
-    undoes : (way : Bool) → Sound lengths c → cursor_in q.cursor ≡ (moved lengths way c).cursor_is
-        → ((moved lengths (not way) q.cursor).cursor_is ≡ cursor_in c) × ((moved lengths (not way) q.cursor).passed ≡ (moved lengths way c).passed)
+    undoes : (way : Bool) → Sound lengths c → cursor_in (after c q) ≡ (moved lengths way c).cursor_is
+        → ((moved lengths (not way) (after c q)).cursor_is ≡ cursor_in c) × ((moved lengths (not way) (after c q)).passed ≡ (moved lengths way c).passed)
     undoes true s is =
         let x = (step_in (ok_of lengths) (cursor_in c)).cursor_is in
         let (_, good, _, _, _) = leads lengths true s in
@@ -149,15 +151,15 @@ there_back lengths way c q b h e f =
         let at = cursor_in c in
         (ap (λ y. (step_in (ok_of lengths) y).cursor_is) is ∙ (cursors_of lengths).step_back at s.limits.two s.limits.some s.good, ap (λ y. (step_in (ok_of lengths) y).passed) is ∙ (cursors_of lengths).as_many at s.limits.two s.limits.some s.good)
 
-pub undone : (lengths : Lengths) (way : Bool) (c : DC.Cursor) (q b : DT.Stepped) → Says lengths way c q → Says lengths (not way) q.cursor b
-    → (b.number ≡ q.number) × (b.passed ≡ q.passed) × (b.cursor ≡ c)
+pub undone : (lengths : Lengths) (way : Bool) (c : DC.Cursor) (q b : Result DT.Stepped Refusal) → Says lengths way c q → Says lengths (not way) (after c q) b
+    → (number_of b ≡ number_of q) × (passed_of b ≡ passed_of q) × (after (after c q) b ≡ c)
 undone lengths way c q b e f = elim (ℕ_discrete (fault_on lengths c) 0) [ yes h ↦ there_back lengths way c q b h e f | no h ↦ refused h ]
   where
-    refused : ¬ (fault_on lengths c ≡ 0) → (b.number ≡ q.number) × (b.passed ≡ q.passed) × (b.cursor ≡ c)
+    refused : ¬ (fault_on lengths c ≡ 0) → (number_of b ≡ number_of q) × (passed_of b ≡ passed_of q) × (after (after c q) b ≡ c)
     refused h =
         let (_, passed, is) = not_stepped lengths way c q e (λ z. h (sym (says lengths way c q e).0 ∙ z)) in
-        let again : b.number ≡ fault_on lengths c = (says lengths (not way) q.cursor b f).0 ∙ ap (fault_on lengths) is in
-        let (_, passed', is') = not_stepped lengths (not way) q.cursor b f (λ z. h (sym again ∙ z)) in
+        let again : number_of b ≡ fault_on lengths c = (says lengths (not way) (after c q) b f).0 ∙ ap (fault_on lengths) is in
+        let (_, passed', is') = not_stepped lengths (not way) (after c q) b f (λ z. h (sym again ∙ z)) in
         (again ∙ sym (says lengths way c q e).0, passed' ∙ sym passed, is' ∙ is)
 
 -- steps in a row
@@ -185,7 +187,7 @@ module _ (lengths : Lengths) (k n : ℕ) (a : admitted k n ≡ true) where
       let there : cursor_on (ok_of lengths n) k n (modulo p (size_of lengths k n)) ≡ cursor_in c = ap (cursor_on (ok_of lengths n) k n) (modulo_small p (size_of lengths k n) h ∙ sym at.place) ∙ ap₂ (λ x y. cursor_on (ok_of lengths y) x y (position_in (ok_of lengths) (cursor_in c))) (sym at.letters) (sym at.marks) ∙ one in
       ap (λ x. x.word) (sym there)
 
-  goes : (way : Bool) (p : ℕ) (c : DC.Cursor) (q : DT.Stepped) → At p c → Says lengths way c q → At (beside (size_of lengths k n) way p) q.cursor
+  goes : (way : Bool) (p : ℕ) (c : DC.Cursor) (q : Result DT.Stepped Refusal) → At p c → Says lengths way c q → At (beside (size_of lengths k n) way p) (after c q)
   goes way p c q at e =
       let g = step lengths way c q at.sane e in
       record {
@@ -195,14 +197,14 @@ module _ (lengths : Lengths) (k n : ℕ) (a : admitted k n ≡ true) where
         place = g.place ∙ ap₂ (λ y z. beside (size_of lengths y z) way (position_in (ok_of lengths) (cursor_in c))) at.letters at.marks ∙ ap (beside (size_of lengths k n) way) at.place;
       }
 
-  reads : (way : Bool) (p : ℕ) (c : DC.Cursor) (q : DT.Stepped) → At p c → Says lengths way c q → q.mark ≡ letter_of lengths k n p
+  reads : (way : Bool) (p : ℕ) (c : DC.Cursor) (q : Result DT.Stepped Refusal) → At p c → Says lengths way c q → mark_of q ≡ letter_of lengths k n p
   reads way p c q at e =
       (step lengths way c q at.sane e).mark ∙ ap₂ (λ y z. letter_of lengths y z (position_in (ok_of lengths) (cursor_in c))) at.letters at.marks ∙ ap (letter_of lengths k n) at.place
 
-  passes : (way : Bool) (p : ℕ) (c : DC.Cursor) (q : DT.Stepped) → p < size_of lengths k n → At p c → Says lengths way c q
-      → q.passed ≡ passed_going way k n (held_at lengths k n p) (held_at lengths k n (beside (size_of lengths k n) way p))
+  passes : (way : Bool) (p : ℕ) (c : DC.Cursor) (q : Result DT.Stepped Refusal) → p < size_of lengths k n → At p c → Says lengths way c q
+      → passed_of q ≡ passed_going way k n (held_at lengths k n p) (held_at lengths k n (beside (size_of lengths k n) way p))
   passes way p c q h at e =
-      (step lengths way c q at.sane e).passed ∙ ap₂ (λ x y. passed_going way x y (cursor_in c).word (cursor_in q.cursor).word) at.letters at.marks
+      (step lengths way c q at.sane e).passed ∙ ap₂ (λ x y. passed_going way x y (cursor_in c).word (cursor_in (after c q)).word) at.letters at.marks
       ∙ ap₂ (passed_going way k n) (held h at) (held (beside_small way p h) (goes way p c q at e))
 
   -- the words passed from a place are those from the same place a round earlier
@@ -212,9 +214,9 @@ module _ (lengths : Lengths) (k n : ℕ) (a : admitted k n ≡ true) where
       let next : modulo (suc p) (size_of lengths k n) ≡ modulo (suc q) (size_of lengths k n) = modulo_suc p (size_of lengths k n) ∙ ap (λ i. modulo (suc i) (size_of lengths k n)) e ∙ sym (modulo_suc q (size_of lengths k n)) in
       ap₂ (λ x y. x ∷ y) (ap₂ (λ i j. passed_to k n (cursor_on (ok_of lengths n) k n i).word (cursor_on (ok_of lengths n) k n j).word) e next) (passed_same (suc p) (suc q) c next)
 
-  walks : (p : ℕ) {c d : DC.Cursor} {qs : List DT.Stepped} → p < size_of lengths k n → At p c → Walked lengths c qs d
-      → (fields (λ q. q.number) qs ≡ replicate (length qs) 0) × (fields (λ q. q.mark) qs ≡ letters_of lengths k n p (length qs))
-      × (fields (λ q. q.passed) qs ≡ passed_from lengths k n p (length qs)) × At (modulo (p + length qs) (size_of lengths k n)) d
+  walks : (p : ℕ) {c d : DC.Cursor} {qs : List (Result DT.Stepped Refusal)} → p < size_of lengths k n → At p c → Walked lengths c qs d
+      → (fields number_of qs ≡ replicate (length qs) 0) × (fields mark_of qs ≡ letters_of lengths k n p (length qs))
+      × (fields passed_of qs ≡ passed_from lengths k n p (length qs)) × At (modulo (p + length qs) (size_of lengths k n)) d
   walks p {c} h at stays = (refl, refl, refl, subst (λ i. At i c) (sym (ap (λ i. modulo i (size_of lengths k n)) (add-zero p) ∙ modulo_small p (size_of lengths k n) h)) at)
   walks p {c} {d} h at (steps q {qs} e w) =
       let next = modulo (suc p) (size_of lengths k n) in
@@ -227,9 +229,9 @@ module _ (lengths : Lengths) (k n : ℕ) (a : admitted k n ≡ true) where
         subst (λ i. At i d) further stood,
       )
 
-  follows : (p : ℕ) {c d : DC.Cursor} {ways : List Bool} {qs : List DT.Stepped} → p < size_of lengths k n → At p c → Followed (Says lengths) c ways qs d
-      → (fields (λ q. q.number) qs ≡ replicate (length qs) 0) × (fields (λ q. q.mark) qs ≡ path_letters (size_of lengths k n) (ring (ok_of lengths n) k n) ways p)
-      × (fields (λ q. q.passed) qs ≡ path_passed lengths k n ways p) × At (path_end (size_of lengths k n) ways p) d
+  follows : (p : ℕ) {c d : DC.Cursor} {ways : List Bool} {qs : List (Result DT.Stepped Refusal)} → p < size_of lengths k n → At p c → Followed (Says lengths) c ways qs d
+      → (fields number_of qs ≡ replicate (length qs) 0) × (fields mark_of qs ≡ path_letters (size_of lengths k n) (ring (ok_of lengths n) k n) ways p)
+      × (fields passed_of qs ≡ path_passed lengths k n ways p) × At (path_end (size_of lengths k n) ways p) d
   follows p h at rests = (refl, refl, refl, at)
   follows p {c} h at (on-path way q e w) =
       let (numbers, marks, passed, stood) = follows (beside (size_of lengths k n) way p) (beside_small way p h) (goes way p c q at e) w in (
@@ -239,20 +241,20 @@ module _ (lengths : Lengths) (k n : ℕ) (a : admitted k n ≡ true) where
         stood,
       )
 
-pub walk : (lengths : Lengths) (k n p : ℕ) (r : DS.Started) (qs : List DT.Stepped) (d : DC.Cursor) (v : DV.Value) → admitted k n ≡ true → p < size_of lengths k n
-    → StartOn lengths k n p r → Walked lengths r.cursor qs d → WhereOn lengths d v
-    → (r.number ≡ 0) × (fields (λ q. q.number) qs ≡ replicate (length qs) 0) × (fields (λ q. q.mark) qs ≡ letters_of lengths k n p (length qs))
-    × (fields (λ q. q.passed) qs ≡ passed_from lengths k n p (length qs)) × (v.number ≡ 0) × (v.value ≡ modulo (p + length qs) (size_of lengths k n))
+pub walk : (lengths : Lengths) (k n p : ℕ) (r : Result DC.Cursor Refusal) (qs : List (Result DT.Stepped Refusal)) (d : DC.Cursor) (v : Result ℕ Refusal) → admitted k n ≡ true → p < size_of lengths k n
+    → StartOn lengths k n p r → Walked lengths (cursor_of r) qs d → WhereOn lengths d v
+    → (number_of r ≡ 0) × (fields number_of qs ≡ replicate (length qs) 0) × (fields mark_of qs ≡ letters_of lengths k n p (length qs))
+    × (fields passed_of qs ≡ passed_from lengths k n p (length qs)) × (number_of v ≡ 0) × (value_of v ≡ modulo (p + length qs) (size_of lengths k n))
 walk lengths k n p r qs d v a h s w e =
     let (number, letters, marks, sane, place) = started lengths k n p r a h s in
     let (numbers, read, passed, stood) = walks lengths k n a p h (record { letters = letters; marks = marks; sane = sane; place = place }) w in
     let (told, value, _) = stands lengths d v stood.sane e in
     (number, numbers, read, passed, told, value ∙ stood.place)
 
-pub both_ways : (lengths : Lengths) (k n p : ℕ) (r : DS.Started) (ways : List Bool) (qs : List DT.Stepped) (d : DC.Cursor) (v : DV.Value) → admitted k n ≡ true → p < size_of lengths k n
-    → StartOn lengths k n p r → Followed (Says lengths) r.cursor ways qs d → WhereOn lengths d v
-    → (r.number ≡ 0) × (fields (λ q. q.number) qs ≡ replicate (length qs) 0) × (fields (λ q. q.mark) qs ≡ path_letters (size_of lengths k n) (ring (ok_of lengths n) k n) ways p)
-    × (fields (λ q. q.passed) qs ≡ path_passed lengths k n ways p) × (v.number ≡ 0) × (v.value ≡ path_end (size_of lengths k n) ways p)
+pub both_ways : (lengths : Lengths) (k n p : ℕ) (r : Result DC.Cursor Refusal) (ways : List Bool) (qs : List (Result DT.Stepped Refusal)) (d : DC.Cursor) (v : Result ℕ Refusal) → admitted k n ≡ true → p < size_of lengths k n
+    → StartOn lengths k n p r → Followed (Says lengths) (cursor_of r) ways qs d → WhereOn lengths d v
+    → (number_of r ≡ 0) × (fields number_of qs ≡ replicate (length qs) 0) × (fields mark_of qs ≡ path_letters (size_of lengths k n) (ring (ok_of lengths n) k n) ways p)
+    × (fields passed_of qs ≡ path_passed lengths k n ways p) × (number_of v ≡ 0) × (value_of v ≡ path_end (size_of lengths k n) ways p)
 both_ways lengths k n p r ways qs d v a h s w e =
     let (number, letters, marks, sane, place) = started lengths k n p r a h s in
     let (numbers, read, passed, stood) = follows lengths k n a p h (record { letters = letters; marks = marks; sane = sane; place = place }) w in

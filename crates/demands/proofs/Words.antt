@@ -22,7 +22,6 @@ use Rattle.theory.proofs.Base.{test}
 use Rattle.shape.proofs.Limits.{admitted_limits}
 use Rattle.buffers.specs.Buffers.{over}
 use Rattle.numbers.specs.Numbers.{put_be}
-use Rattle.calls.specs.declared.Value as DV
 use Rattle.calls.specs.Refusals.{the_word_fault, index_fault}
 use Rattle.words.specs.Says.{LyndonSays, RotationSays, TurnSays, RootSays}
 use Rattle.ranking.specs.Says.{ManySays, RankSays, WordSays}
@@ -32,6 +31,9 @@ use Rattle.sheets.proofs.Sheets.{sheets}
 use Rattle.demands.specs.Demands.{TurnTold}
 use Rattle.demands.proofs.Faults.{strip_faultless, word_faultless, index_faultless}
 use Rattle.demands.proofs.Trays.{into_fine, number_fine, tray_back, small, value_fine, beside_fine}
+use Rattle.calls.specs.declared.refusal.Refusal.{Refusal}
+use Rattle.calls.specs.Codes.{number_of, value_of}
+use Rattle.std.specs.Prelude.{Result}
 
 many_small : (k n : ℕ) → how_many k n ≤ k ^ n
 many_small k n = omega (arith, keep-length is_lyndon (all_words k n), all_count k n)
@@ -44,17 +46,17 @@ module _ (k n : ℕ) (w : List ℕ) (a : admitted k n ≡ true) (e : length w �
   fine : the_word_fault k n w ≡ 0
   fine = word_faultless k n w a e m
 
-  pub lyndon : (r : DV.Value) → LyndonSays k n w r
-      → (r.number ≡ 0) × (r.value ≤ 1) × ((r.value ≡ 1) ↔ ((i : ℕ) → 1 ≤ i → i < n → below w (turned i w) ≡ true))
-  lyndon r f = let (number, value) = value_fine fine f in told number value (test (is_lyndon w))
+  pub lyndon : (r : Result ℕ Refusal) → LyndonSays k n w r
+      → (number_of r ≡ 0) × (value_of r ≤ 1) × ((value_of r ≡ 1) ↔ ((i : ℕ) → 1 ≤ i → i < n → below w (turned i w) ≡ true))
+  lyndon r f = let (number, value) = value_fine r fine f in told number value (test (is_lyndon w))
     where
-      told : r.number ≡ 0 → r.value ≡ pick (is_lyndon w) 1 0 → (is_lyndon w ≡ true) ⊎ (is_lyndon w ≡ false)
-          → (r.number ≡ 0) × (r.value ≤ 1) × ((r.value ≡ 1) ↔ ((i : ℕ) → 1 ≤ i → i < n → below w (turned i w) ≡ true))
+      told : number_of r ≡ 0 → value_of r ≡ pick (is_lyndon w) 1 0 → (is_lyndon w ≡ true) ⊎ (is_lyndon w ≡ false)
+          → (number_of r ≡ 0) × (value_of r ≤ 1) × ((value_of r ≡ 1) ↔ ((i : ℕ) → 1 ≤ i → i < n → below w (turned i w) ≡ true))
       told number value (inl t) =
-          let one : r.value ≡ 1 = value ∙ ap (λ b. pick {A = ℕ} b 1 0) t in
+          let one : value_of r ≡ 1 = value ∙ ap (λ b. pick {A = ℕ} b 1 0) t in
           (number, omega arith, (λ _ i x y. ((word_laws.lyndon_turns w).0 t).1 i x (omega arith), λ _. one))
       told number value (inr t) =
-          let none : r.value ≡ 0 = value ∙ ap (λ b. pick {A = ℕ} b 1 0) t in
+          let none : value_of r ≡ 0 = value ∙ ap (λ b. pick {A = ℕ} b 1 0) t in
           (number, omega arith, (λ one. absurd (omega arith), λ g. absurd (false≢true (sym t ∙ (word_laws.lyndon_turns w).1 (omega (arith, (admitted_limits k n a).some), λ i x y. g i x (omega arith))))))
 
   -- the least turn is the one to tell
@@ -68,11 +70,11 @@ module _ (k n : ℕ) (w : List ℕ) (a : admitted k n ≡ true) (e : length w �
         first = λ j h is. omega (arith, turns.least w j (is ∙ turns.reaches w));
       }
 
-  pub rotation : (t t' : List ℕ) (r : DV.Value) → n ≤ length t → RotationSays k n w t t' r
-      → (r.number ≡ 0) × (t' ≡ over (turned r.value w) t) × TurnTold w r.value
+  pub rotation : (t t' : List ℕ) (r : Result ℕ Refusal) → n ≤ length t → RotationSays k n w t t' r
+      → (number_of r ≡ 0) × (t' ≡ over (turned (value_of r) w) t) × TurnTold w (value_of r)
   rotation t t' r x f =
       let (number, value, is) = beside_fine (the_word_fault k n w) (least_turn w) (smallest w) t fine (omega (arith, smallest-length w)) f in
-      let by : smallest w ≡ turned r.value w = sym (ap (λ i. turned i w) value ∙ word_laws.turns.reaches w) in
+      let by : smallest w ≡ turned (value_of r) w = sym (ap (λ i. turned i w) value ∙ word_laws.turns.reaches w) in
       (number, is ∙ ap (λ u. over u t) by, subst (TurnTold w) (sym value) told_turn)
 
   pub turn : (t t' : List ℕ) (r : ℕ) → 8 ≤ length t → TurnSays k n w t t' r → (r ≡ 0) × TurnTold w (be 0 8 t')
@@ -81,10 +83,10 @@ module _ (k n : ℕ) (w : List ℕ) (a : admitted k n ≡ true) (e : length w �
       let short : least_turn w < 2 ^ 64 = omega (arith, told_turn.inside, e, (admitted_limits k n a).short) in
       (found.0, subst (TurnTold w) (sym (tray_back (least_turn w) t short found.1)) told_turn)
 
-  pub root_told : (r : DV.Value) → RootSays k n w r
-      → (r.number ≡ 0) × (1 ≤ r.value) × (power_to n (take r.value w) ≡ w) × ((u : List ℕ) (d : ℕ) → w ≡ repeated d u → r.value ≤ length u)
+  pub root_told : (r : Result ℕ Refusal) → RootSays k n w r
+      → (number_of r ≡ 0) × (1 ≤ value_of r) × (power_to n (take (value_of r) w) ≡ w) × ((u : List ℕ) (d : ℕ) → w ≡ repeated d u → value_of r ≤ length u)
   root_told r f =
-      let (number, value) = value_fine fine f in
+      let (number, value) = value_fine r fine f in
       let some : 1 ≤ length w = omega (arith, e, (admitted_limits k n a).some) in (
         number,
         omega (arith, value, (word_laws.root_some w some).0),
@@ -105,8 +107,8 @@ module _ (k n : ℕ) (w : List ℕ) (a : admitted k n ≡ true) (e : length w �
       let (_, _, told) = ranked t t' r x f in
       (front, fine_sheet (k ∷ n ∷ w) fine ∙ is ∙ ap₂ (λ l v. front ++ sheet_line 1 (rank_term k (necklace_up_to k w) 1) (pos (l * v))) e (sym told))
 
-pub count : (k n : ℕ) (r : DV.Value) → admitted k n ≡ true → ManySays k n r → (r.number ≡ 0) × (r.value ≡ how_many k n)
-count k n r a f = value_fine (strip_faultless k n a) f
+pub count : (k n : ℕ) (r : Result ℕ Refusal) → admitted k n ≡ true → ManySays k n r → (number_of r ≡ 0) × (value_of r ≡ how_many k n)
+count k n r a f = value_fine r (strip_faultless k n a) f
 
 word_written : (k n i : ℕ) (t t' : List ℕ) (r : ℕ) → admitted k n ≡ true → 1 ≤ i → i ≤ how_many k n → n ≤ length t → WordSays k n i t t' r
     → (r ≡ 0) × (t' ≡ over (word_of k n i) t)

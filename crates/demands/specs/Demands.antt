@@ -1,6 +1,6 @@
 -- The three demands as one record: the theorems about the definitions, and what follows for the bytes that the calls leave in trays.
 -- A call's promise says what it gives for every argument (specs/Says of words, ranking, marks, pictures, lookups, misreadings and bills; Cursors of cursors): here it stands as a premise.
-use Rattle.std.specs.Prelude.{◌≡◌, Bool, true, not, List, [], ◌∷◌, ◌++◌, ◌↔◌, ◌≢◌, ℕ, suc, ◌+◌, ◌*◌, ◌^◌, ◌≤◌, ◌<◌, pos, length, get_or, take, drop, replicate}
+use Rattle.std.specs.Prelude.{Result, ◌≡◌, Bool, true, not, List, [], ◌∷◌, ◌++◌, ◌↔◌, ◌≢◌, ℕ, suc, ◌+◌, ◌*◌, ◌^◌, ◌≤◌, ◌<◌, pos, length, get_or, take, drop, replicate}
 use Rattle.theory.specs.Words.{below, up_to, turned, root as root_of, repeated, power_to, keep, marks_ok, is_lyndon, how_many, rank, word_of}
 use Rattle.theory.specs.Sums.{rank_term}
 use Rattle.theory.specs.Floors.{necklace_up_to}
@@ -16,7 +16,6 @@ use Rattle.theory.specs.Prices.{cost_of}
 use Rattle.theory.specs.Theorems.{Alike, Lies, Theorems}
 use Rattle.buffers.specs.Buffers.{over}
 use Rattle.numbers.specs.Numbers.{put_be}
-use Rattle.calls.specs.declared.Value as DV
 use Rattle.calls.specs.Answers.{IntoValue, ValueIs}
 use Rattle.words.specs.Says.{LyndonSays, RotationSays, TurnSays, RootSays}
 use Rattle.ranking.specs.Says.{ManySays, RankSays, WordSays}
@@ -32,12 +31,13 @@ use Rattle.bills.specs.Says.{BillSays, BillOfSays}
 use Rattle.listing.specs.Listings.{SameListing}
 use Rattle.sheets.specs.Worksheets.{sheet_line, worksheet, Sheets}
 use Rattle.cursors.specs.declared.Cursor as DC
-use Rattle.cursors.specs.declared.Started as DS
 use Rattle.cursors.specs.declared.Stepped as DT
-use Rattle.cursors.specs.Cursors.{cursor_in, empty, fault_on, cursor_fault, short_fault, StartOn, WhereOn}
+use Rattle.cursors.specs.Cursors.{mark_of, passed_of, after, cursor_of, cursor_in, empty, fault_on, cursor_fault, short_fault, StartOn, WhereOn}
 use Rattle.demands.specs.Refused.{AllShort, Refusals}
 use Rattle.demands.specs.Trays.{Trays}
 use Rattle.demands.specs.Walked.{Says, StepsOn, Walked, Followed, fields, passed_from, path_passed}
+use Rattle.calls.specs.declared.refusal.Refusal.{Refusal}
+use Rattle.calls.specs.Codes.{number_of, value_of}
 
 -- the turn of a word that is told: the rotation by it is not above any, and no smaller turn gives that rotation
 pub record TurnTold (w : List ℕ) (v : ℕ) : Type 0 where
@@ -85,23 +85,23 @@ pub record Demands : Type 0 where
   pub refusals : Refusals
   pub trays : Trays
   -- a refusal's value is 0, also beside a tray
-  pub no_value : (f v : ℕ) (r : DV.Value) → ValueIs f v r → r.number ≢ 0 → r.value ≡ 0
-  pub no_value_beside : (f v : ℕ) (b t t' : List ℕ) (r : DV.Value) → IntoValue f v b t t' r → r.number ≢ 0 → r.value ≡ 0
+  pub no_value : (f v : ℕ) (r : Result ℕ Refusal) → ValueIs f v r → number_of r ≢ 0 → value_of r ≡ 0
+  pub no_value_beside : (f v : ℕ) (b t t' : List ℕ) (r : Result ℕ Refusal) → IntoValue f v b t t' r → number_of r ≢ 0 → value_of r ≡ 0
   -- a number is read back from its 8 bytes
   pub number_back : (v : ℕ) → v < 2 ^ 64 → be 0 8 (put_be 8 v) ≡ v
   -- Words: is_lyndon answers 1 for a word that is smaller than each of its proper rotations, 0 for any other
-  pub lyndon : (k n : ℕ) (w : List ℕ) (r : DV.Value) → admitted k n ≡ true → length w ≡ n → marks_ok k w ≡ true → LyndonSays k n w r
-      → (r.number ≡ 0) × (r.value ≤ 1) × ((r.value ≡ 1) ↔ ((i : ℕ) → 1 ≤ i → i < n → below w (turned i w) ≡ true))
+  pub lyndon : (k n : ℕ) (w : List ℕ) (r : Result ℕ Refusal) → admitted k n ≡ true → length w ≡ n → marks_ok k w ≡ true → LyndonSays k n w r
+      → (number_of r ≡ 0) × (value_of r ≤ 1) × ((value_of r ≡ 1) ↔ ((i : ℕ) → 1 ≤ i → i < n → below w (turned i w) ≡ true))
   -- smallest_rotation answers the turn, and writes the word turned by so many letters; turn_of writes the turn
-  pub rotation : (k n : ℕ) (w t t' : List ℕ) (r : DV.Value) → admitted k n ≡ true → length w ≡ n → marks_ok k w ≡ true → n ≤ length t
-      → RotationSays k n w t t' r → (r.number ≡ 0) × (t' ≡ over (turned r.value w) t) × TurnTold w r.value
+  pub rotation : (k n : ℕ) (w t t' : List ℕ) (r : Result ℕ Refusal) → admitted k n ≡ true → length w ≡ n → marks_ok k w ≡ true → n ≤ length t
+      → RotationSays k n w t t' r → (number_of r ≡ 0) × (t' ≡ over (turned (value_of r) w) t) × TurnTold w (value_of r)
   pub turn : (k n : ℕ) (w t t' : List ℕ) (r : ℕ) → admitted k n ≡ true → length w ≡ n → marks_ok k w ≡ true → 8 ≤ length t → TurnSays k n w t t' r
       → (r ≡ 0) × TurnTold w (be 0 8 t')
   -- shortest_root answers how many first letters, repeated, give the word; no shorter word does
-  pub root : (k n : ℕ) (w : List ℕ) (r : DV.Value) → admitted k n ≡ true → length w ≡ n → marks_ok k w ≡ true → RootSays k n w r
-      → (r.number ≡ 0) × (1 ≤ r.value) × (power_to n (take r.value w) ≡ w) × ((u : List ℕ) (e : ℕ) → w ≡ repeated e u → r.value ≤ length u)
+  pub root : (k n : ℕ) (w : List ℕ) (r : Result ℕ Refusal) → admitted k n ≡ true → length w ≡ n → marks_ok k w ≡ true → RootSays k n w r
+      → (number_of r ≡ 0) × (1 ≤ value_of r) × (power_to n (take (value_of r) w) ≡ w) × ((u : List ℕ) (e : ℕ) → w ≡ repeated e u → value_of r ≤ length u)
   -- lyndon_count answers the number of Lyndon words, rank_of writes the number of those up to a word, word_of the one of an index
-  pub count : (k n : ℕ) (r : DV.Value) → admitted k n ≡ true → ManySays k n r → (r.number ≡ 0) × (r.value ≡ how_many k n)
+  pub count : (k n : ℕ) (r : Result ℕ Refusal) → admitted k n ≡ true → ManySays k n r → (number_of r ≡ 0) × (value_of r ≡ how_many k n)
   pub ranked : (k n : ℕ) (w t t' : List ℕ) (r : ℕ) → admitted k n ≡ true → length w ≡ n → marks_ok k w ≡ true → 8 ≤ length t → RankSays k n w t t' r
       → (r ≡ 0) × (be 0 8 t' ≡ rank k w)
   pub unranked : (k n i : ℕ) (t t' : List ℕ) (r : ℕ) → admitted k n ≡ true → 1 ≤ i → i ≤ how_many k n → n ≤ length t → WordSays k n i t t' r
@@ -146,10 +146,10 @@ pub record Demands : Type 0 where
   -- Pictures: the file's lines, its size, and that what is read of it is what was drawn
   pub pictures : Pictures
   -- print_picture writes the file and answers its size; its digits, read back, are the marks that print_marks writes, in every row
-  pub picture-back : (n p c h : ℕ) (t t' u u' : List ℕ) (r : DV.Value) (q : ℕ) → admitted 2 n ≡ true → p < 2 ^ n → Frame c h
+  pub picture-back : (n p c h : ℕ) (t t' u u' : List ℕ) (r : Result ℕ Refusal) (q : ℕ) → admitted 2 n ≡ true → p < 2 ^ n → Frame c h
       → file_size c h ≤ length t → c ≤ length u → PictureSays 2 n p c h t t' r → PrintSays 2 n p c u u' q
-      → (r.number ≡ 0) × (r.value ≡ file_size c h) × (q ≡ 0)
-      × (read_picture (take r.value t') ≡ record { plain = true; width = c; height = h; marks = repeated h (take c u') })
+      → (number_of r ≡ 0) × (value_of r ≡ file_size c h) × (q ≡ 0)
+      × (read_picture (take (value_of r) t') ≡ record { plain = true; width = c; height = h; marks = repeated h (take c u') })
   -- picture_of writes the same file, and its size into the other tray
   pub picture_both : (n p c h : ℕ) (s s' t t' : List ℕ) (r : ℕ) → admitted 2 n ≡ true → p < 2 ^ n → Frame c h
       → 8 ≤ length s → file_size c h ≤ length t → BothSay 2 n p c h s s' t t' r
@@ -158,33 +158,33 @@ pub record Demands : Type 0 where
   pub picture_by_rows : (s b t : List ℕ) (r : DP.Parts) → parts_room ≤ length b → PartsSay s b t r
       → take r.head t ++ repeated r.rows (drop r.head (take r.end t)) ≡ picture_for s
   -- Cursors, on either ring: a start gives a cursor without fault on the place; refused, one that is zero in every field
-  pub started : (lengths : Lengths) (k n p : ℕ) (r : DS.Started) → admitted k n ≡ true → p < size_of lengths k n → StartOn lengths k n p r
-      → (r.number ≡ 0) × (r.cursor.k ≡ k) × (r.cursor.n ≡ n) × (fault_on lengths r.cursor ≡ 0) × (position_in (ok_of lengths) (cursor_in r.cursor) ≡ p)
-  pub not_started : (lengths : Lengths) (k n p : ℕ) (r : DS.Started) → StartOn lengths k n p r → r.number ≢ 0 → empty r.cursor ≡ true
+  pub started : (lengths : Lengths) (k n p : ℕ) (r : Result DC.Cursor Refusal) → admitted k n ≡ true → p < size_of lengths k n → StartOn lengths k n p r
+      → (number_of r ≡ 0) × ((cursor_of r).k ≡ k) × ((cursor_of r).n ≡ n) × (fault_on lengths (cursor_of r) ≡ 0) × (position_in (ok_of lengths) (cursor_in (cursor_of r)) ≡ p)
+  pub not_started : (lengths : Lengths) (k n p : ℕ) (r : Result DC.Cursor Refusal) → StartOn lengths k n p r → number_of r ≢ 0 → empty (cursor_of r) ≡ true
   -- any cursor without fault tells its place, which is on the ring
-  pub stands : (lengths : Lengths) (c : DC.Cursor) (v : DV.Value) → fault_on lengths c ≡ 0 → WhereOn lengths c v
-      → (v.number ≡ 0) × (v.value ≡ position_in (ok_of lengths) (cursor_in c)) × (v.value < size_of lengths c.k c.n)
+  pub stands : (lengths : Lengths) (c : DC.Cursor) (v : Result ℕ Refusal) → fault_on lengths c ≡ 0 → WhereOn lengths c v
+      → (number_of v ≡ 0) × (value_of v ≡ position_in (ok_of lengths) (cursor_in c)) × (value_of v < size_of lengths c.k c.n)
   -- a step, on or back, of any cursor without fault; refused, it gives the cursor back
-  pub step : (lengths : Lengths) (way : Bool) (c : DC.Cursor) (q : DT.Stepped) → fault_on lengths c ≡ 0 → Says lengths way c q → StepsOn lengths way c q
-  pub not_stepped : (lengths : Lengths) (way : Bool) (c : DC.Cursor) (q : DT.Stepped) → Says lengths way c q → q.number ≢ 0
-      → (q.mark ≡ 0) × (q.passed ≡ 0) × (q.cursor ≡ c)
+  pub step : (lengths : Lengths) (way : Bool) (c : DC.Cursor) (q : Result DT.Stepped Refusal) → fault_on lengths c ≡ 0 → Says lengths way c q → StepsOn lengths way c q
+  pub not_stepped : (lengths : Lengths) (way : Bool) (c : DC.Cursor) (q : Result DT.Stepped Refusal) → Says lengths way c q → number_of q ≢ 0
+      → (mark_of q ≡ 0) × (passed_of q ≡ 0) × (after c q ≡ c)
   -- a step and the step back, in either order, give every byte of the cursor as it was, lost or not, and pass as many words
-  pub undone : (lengths : Lengths) (way : Bool) (c : DC.Cursor) (q b : DT.Stepped) → Says lengths way c q → Says lengths (not way) q.cursor b
-      → (b.number ≡ q.number) × (b.passed ≡ q.passed) × (b.cursor ≡ c)
+  pub undone : (lengths : Lengths) (way : Bool) (c : DC.Cursor) (q b : Result DT.Stepped Refusal) → Says lengths way c q → Says lengths (not way) (after c q) b
+      → (number_of b ≡ number_of q) × (passed_of b ≡ passed_of q) × (after (after c q) b ≡ c)
   -- a cursor is without fault on the short ring just if it is so on the strip and holds a word of length n
   pub short_good : (c : DC.Cursor) → (short_fault c ≡ 0) ↔ ((cursor_fault c ≡ 0) × (c.long ≡ c.n))
   -- a start at a place, any number of steps, then the cursor's place: no step is refused, the marks read are the ring's from that place on, the words
   -- passed are those from word to word, and the place is as many further on
-  pub walk : (lengths : Lengths) (k n p : ℕ) (r : DS.Started) (qs : List DT.Stepped) (d : DC.Cursor) (v : DV.Value) → admitted k n ≡ true → p < size_of lengths k n
-      → StartOn lengths k n p r → Walked lengths r.cursor qs d → WhereOn lengths d v
-      → (r.number ≡ 0) × (fields (λ q. q.number) qs ≡ replicate (length qs) 0) × (fields (λ q. q.mark) qs ≡ letters_of lengths k n p (length qs))
-      × (fields (λ q. q.passed) qs ≡ passed_from lengths k n p (length qs)) × (v.number ≡ 0) × (v.value ≡ modulo (p + length qs) (size_of lengths k n))
+  pub walk : (lengths : Lengths) (k n p : ℕ) (r : Result DC.Cursor Refusal) (qs : List (Result DT.Stepped Refusal)) (d : DC.Cursor) (v : Result ℕ Refusal) → admitted k n ≡ true → p < size_of lengths k n
+      → StartOn lengths k n p r → Walked lengths (cursor_of r) qs d → WhereOn lengths d v
+      → (number_of r ≡ 0) × (fields number_of qs ≡ replicate (length qs) 0) × (fields mark_of qs ≡ letters_of lengths k n p (length qs))
+      × (fields passed_of qs ≡ passed_from lengths k n p (length qs)) × (number_of v ≡ 0) × (value_of v ≡ modulo (p + length qs) (size_of lengths k n))
   -- the same with steps on and back in any order: the marks read and the words passed are those of the path, and the place is where the path ends
-  pub both_ways : (lengths : Lengths) (k n p : ℕ) (r : DS.Started) (ways : List Bool) (qs : List DT.Stepped) (d : DC.Cursor) (v : DV.Value)
-      → admitted k n ≡ true → p < size_of lengths k n → StartOn lengths k n p r → Followed (Says lengths) r.cursor ways qs d → WhereOn lengths d v
-      → (r.number ≡ 0) × (fields (λ q. q.number) qs ≡ replicate (length qs) 0)
-      × (fields (λ q. q.mark) qs ≡ path_letters (size_of lengths k n) (ring (ok_of lengths n) k n) ways p)
-      × (fields (λ q. q.passed) qs ≡ path_passed lengths k n ways p) × (v.number ≡ 0) × (v.value ≡ path_end (size_of lengths k n) ways p)
+  pub both_ways : (lengths : Lengths) (k n p : ℕ) (r : Result DC.Cursor Refusal) (ways : List Bool) (qs : List (Result DT.Stepped Refusal)) (d : DC.Cursor) (v : Result ℕ Refusal)
+      → admitted k n ≡ true → p < size_of lengths k n → StartOn lengths k n p r → Followed (Says lengths) (cursor_of r) ways qs d → WhereOn lengths d v
+      → (number_of r ≡ 0) × (fields number_of qs ≡ replicate (length qs) 0)
+      × (fields mark_of qs ≡ path_letters (size_of lengths k n) (ring (ok_of lengths n) k n) ways p)
+      × (fields passed_of qs ≡ path_passed lengths k n ways p) × (number_of v ≡ 0) × (value_of v ≡ path_end (size_of lengths k n) ways p)
   -- Plans: what stripwalk prints does not depend on the record, nor on rails
   pub same-listing : SameListing
   -- look_up tells section, distance and rail of each window that is read wholly inside a section of an accepted plan
@@ -217,18 +217,18 @@ pub record Demands : Type 0 where
   -- of a window that was read in full it answers what look_up does, byte for byte
   pub smudged_plain : (s w t t' : List ℕ) (r : ℕ) → keep unread w ≡ [] → SmudgedSays s w t t' r → LookupSays s w t t' r
   -- Misreadings: misreadings lists the changes of one mark of a laid window that give a laid window
-  pub misread : (s w t t' : List ℕ) (r : DV.Value) → MisreadingsSays s w t t' r → r.number ≡ 0 → ListTold s w t t' r.value
+  pub misread : (s w t t' : List ℕ) (r : Result ℕ Refusal) → MisreadingsSays s w t t' r → number_of r ≡ 0 → ListTold s w t t' (value_of r)
   -- and answers for each window that is laid, given 3,850 bytes, which hold any list
-  pub misread_answers : (s : List ℕ) (p : ℕ) (t t' : List ℕ) (r : DV.Value) → plan_fault s ≡ 0 → laid_at s p ≡ true → 3850 ≤ length t
-      → MisreadingsSays s (window (shades s) (marks s) p) t t' r → r.number ≡ 0
+  pub misread_answers : (s : List ℕ) (p : ℕ) (t t' : List ℕ) (r : Result ℕ Refusal) → plan_fault s ≡ 0 → laid_at s p ≡ true → 3850 ≤ length t
+      → MisreadingsSays s (window (shades s) (marks s) p) t t' r → number_of r ≡ 0
   -- misreadings_of, with 8 bytes for the number of entries, gives the same number, the same list, and as many entries
-  pub misread_both : (s w c c' t t' u : List ℕ) (r : DV.Value) (q : ℕ) → 8 ≤ length c → MisreadingsSays s w t t' r → MisreadingListSays s w c c' t u q
-      → (q ≡ r.number) × (u ≡ t') × (q ≡ 0 → be 0 8 c' ≡ r.value)
+  pub misread_both : (s w c c' t t' u : List ℕ) (r : Result ℕ Refusal) (q : ℕ) → 8 ≤ length c → MisreadingsSays s w t t' r → MisreadingListSays s w c c' t u q
+      → (q ≡ number_of r) × (u ≡ t') × (q ≡ 0 → be 0 8 c' ≡ value_of r)
   -- Bills: bill answers what the sections cost, of each accepted plan without a long one, at each price and charge up to their limits; it fits 55 bits
-  pub billed : (s : List ℕ) (p c : ℕ) (r : DV.Value) → plan_fault s ≡ 0 → AllShort s → p ≤ 10000000 → c ≤ 4294967295 → BillSays s p c r
-      → (r.number ≡ 0) × (r.value ≡ cost_of p c (sections s)) × (r.value < 2 ^ 55)
+  pub billed : (s : List ℕ) (p c : ℕ) (r : Result ℕ Refusal) → plan_fault s ≡ 0 → AllShort s → p ≤ 10000000 → c ≤ 4294967295 → BillSays s p c r
+      → (number_of r ≡ 0) × (value_of r ≡ cost_of p c (sections s)) × (value_of r < 2 ^ 55)
   -- bill_of, with 8 bytes, gives the same number and the same bill, and no byte after it
-  pub bill_both : (s : List ℕ) (p c : ℕ) (t t' : List ℕ) (r : DV.Value) (q : ℕ) → 8 ≤ length t → BillSays s p c r → BillOfSays s p c t t' q
-      → (q ≡ r.number) × (q ≡ 0 → be 0 8 t' ≡ r.value) × (drop 8 t' ≡ drop 8 t)
+  pub bill_both : (s : List ℕ) (p c : ℕ) (t t' : List ℕ) (r : Result ℕ Refusal) (q : ℕ) → 8 ≤ length t → BillSays s p c r → BillOfSays s p c t t' q
+      → (q ≡ number_of r) × (q ≡ 0 → be 0 8 t' ≡ value_of r) × (drop 8 t' ≡ drop 8 t)
   -- plans with the same strip and sections have the same bill, whatever their records and rails, or the same refusal
-  pub bill_same : (s u : List ℕ) (p c : ℕ) (r q : DV.Value) → Alike s u → BillSays s p c r → BillSays u p c q → (r.number ≡ q.number) × (r.value ≡ q.value)
+  pub bill_same : (s u : List ℕ) (p c : ℕ) (r q : Result ℕ Refusal) → Alike s u → BillSays s p c r → BillSays u p c q → (number_of r ≡ number_of q) × (value_of r ≡ value_of q)

@@ -1,6 +1,6 @@
 -- Which refusals each call knows, and when each applies: its number is the first of `order` that does, and 0 just when none does.
 -- A call's promise (its Says) stands as a premise.
-use Rattle.std.specs.Prelude.{◌≡◌, true, false, ◌&&◌, ◌||◌, not, List, [], ◌∷◌, ◌++◌, ◌↔◌, ◌≢◌, ℕ, ◌+◌, ◌^◌, ◌≤◌, ◌<◌, eqb, ltb, leb, length}
+use Rattle.std.specs.Prelude.{Result, ◌≡◌, true, false, ◌&&◌, ◌||◌, not, List, [], ◌∷◌, ◌++◌, ◌↔◌, ◌≢◌, ℕ, ◌+◌, ◌^◌, ◌≤◌, ◌<◌, eqb, ltb, leb, length}
 use Rattle.theory.specs.Words.{root, how_many, keep, marks_ok}
 use Rattle.theory.specs.Lists.{In}
 use Rattle.theory.specs.Strips.{admitted, window}
@@ -11,7 +11,6 @@ use Rattle.theory.specs.Erasures.{unread, read, agrees, fitting}
 use Rattle.theory.specs.Prices.{short_rolls}
 use Rattle.shape.specs.declared.Lengths.{Lengths}
 use Rattle.shape.specs.Rings.{ok_of, size_of}
-use Rattle.calls.specs.declared.Value as DV
 use Rattle.calls.specs.Order.{order, Rule, rule, applies_in, given}
 use Rattle.words.specs.Says.{LyndonSays, RotationSays, TurnSays, RootSays}
 use Rattle.ranking.specs.Says.{ManySays, RankSays, WordSays}
@@ -22,9 +21,10 @@ use Rattle.lookups.specs.Says.{answer_size, PlanSays, LookupSays, SmudgedSays}
 use Rattle.misreadings.specs.Says.{list_size, MisreadingsSays, MisreadingListSays}
 use Rattle.bills.specs.Says.{BillSays, BillOfSays}
 use Rattle.cursors.specs.declared.Cursor as DC
-use Rattle.cursors.specs.declared.Started as DS
 use Rattle.cursors.specs.declared.Stepped as DT
 use Rattle.cursors.specs.Cursors.{cursor_in, tidy, StartOn, WhereOn, StepOn, BackOn}
+use Rattle.calls.specs.declared.refusal.Refusal.{Refusal}
+use Rattle.calls.specs.Codes.{number_of}
 
 -- no such strip; wrong window, bad mark; off the strip, or off the short ring; no such word; lost cursor, on either ring
 abbrev pub strip_rules : ℕ → ℕ → List Rule
@@ -88,11 +88,11 @@ pub record Refusals : Type 0 where
   pub first : (rules : List Rule) (before after : List ℕ) (f : ℕ) → order ≡ before ++ (f ∷ after)
       → (given rules ≡ f) ↔ ((applies_in f rules ≡ true) × ((g : ℕ) → In g before → applies_in g rules ≡ false))
   -- each call
-  pub is_lyndon_lem : (k n : ℕ) (w : List ℕ) (r : DV.Value) → LyndonSays k n w r → r.number ≡ given (word_rules k n w)
-  pub smallest_rotation : (k n : ℕ) (w t t' : List ℕ) (r : DV.Value) → RotationSays k n w t t' r → r.number ≡ given (word_rules k n w ++ tray_rules t n)
+  pub is_lyndon_lem : (k n : ℕ) (w : List ℕ) (r : Result ℕ Refusal) → LyndonSays k n w r → number_of r ≡ given (word_rules k n w)
+  pub smallest_rotation : (k n : ℕ) (w t t' : List ℕ) (r : Result ℕ Refusal) → RotationSays k n w t t' r → number_of r ≡ given (word_rules k n w ++ tray_rules t n)
   pub turn_of : (k n : ℕ) (w t t' : List ℕ) (r : ℕ) → TurnSays k n w t t' r → r ≡ given (word_rules k n w ++ tray_rules t 8)
-  pub shortest_root : (k n : ℕ) (w : List ℕ) (r : DV.Value) → RootSays k n w r → r.number ≡ given (word_rules k n w)
-  pub lyndon_count : (k n : ℕ) (r : DV.Value) → ManySays k n r → r.number ≡ given (strip_rules k n)
+  pub shortest_root : (k n : ℕ) (w : List ℕ) (r : Result ℕ Refusal) → RootSays k n w r → number_of r ≡ given (word_rules k n w)
+  pub lyndon_count : (k n : ℕ) (r : Result ℕ Refusal) → ManySays k n r → number_of r ≡ given (strip_rules k n)
   pub rank_of : (k n : ℕ) (w t t' : List ℕ) (r : ℕ) → RankSays k n w t t' r → r ≡ given (word_rules k n w ++ tray_rules t 8)
   pub word_of_lem : (k n i : ℕ) (t t' : List ℕ) (r : ℕ) → WordSays k n i t t' r → r ≡ given (index_rules k n i ++ tray_rules t n)
   -- on either ring, as MarkSays and ShortMarkSays are: mark_at and short_mark_at
@@ -101,21 +101,21 @@ pub record Refusals : Type 0 where
   pub short_place_of_lem : (k n : ℕ) (w t t' : List ℕ) (r : ℕ) → ShortPlaceSays k n w t t' r → r ≡ given (short_window_rules k n w ++ tray_rules t 8)
   pub print_marks : (lengths : Lengths) (k n p c : ℕ) (t t' : List ℕ) (r : ℕ) → PrintOn lengths k n p c t t' r
       → r ≡ given (place_rules lengths k n p ++ tray_rules t c)
-  pub print_picture : (k n p c h : ℕ) (t t' : List ℕ) (r : DV.Value) → PictureSays k n p c h t t' r → r.number ≡ given (picture_rules k n p c h ++ tray_rules t (file_size c h))
+  pub print_picture : (k n p c h : ℕ) (t t' : List ℕ) (r : Result ℕ Refusal) → PictureSays k n p c h t t' r → number_of r ≡ given (picture_rules k n p c h ++ tray_rules t (file_size c h))
   pub picture_of : (k n p c h : ℕ) (s s' t t' : List ℕ) (r : ℕ) → BothSay k n p c h s s' t t' r
       → r ≡ given (picture_rules k n p c h ++ trays_rules s 8 t (file_size c h))
   pub check_plan : (s : List ℕ) (r : ℕ) → PlanSays s r → r ≡ given (plan_rules s)
   pub look_up : (s w t t' : List ℕ) (r : ℕ) → LookupSays s w t t' r → r ≡ given (laying_rules s w ++ tray_rules t answer_size)
   pub look_up_smudged : (s w t t' : List ℕ) (r : ℕ) → SmudgedSays s w t t' r → r ≡ given (smudged_rules s w ++ tray_rules t answer_size)
-  pub misreadings : (s w t t' : List ℕ) (r : DV.Value) → MisreadingsSays s w t t' r → r.number ≡ given (laying_rules s w ++ tray_rules t (list_size s w))
+  pub misreadings : (s w t t' : List ℕ) (r : Result ℕ Refusal) → MisreadingsSays s w t t' r → number_of r ≡ given (laying_rules s w ++ tray_rules t (list_size s w))
   pub misreadings_of : (s w c c' t t' : List ℕ) (r : ℕ) → MisreadingListSays s w c c' t t' r → r ≡ given (laying_rules s w ++ trays_rules c 8 t (list_size s w))
-  pub bill : (s : List ℕ) (p c : ℕ) (r : DV.Value) → BillSays s p c r → r.number ≡ given (bill_rules s p c)
+  pub bill : (s : List ℕ) (p c : ℕ) (r : Result ℕ Refusal) → BillSays s p c r → number_of r ≡ given (bill_rules s p c)
   pub bill_of : (s : List ℕ) (p c : ℕ) (t t' : List ℕ) (r : ℕ) → BillOfSays s p c t t' r → r ≡ given (bill_rules s p c ++ tray_rules t 8)
   -- a cursor, on either ring
-  pub start_cursor : (lengths : Lengths) (k n p : ℕ) (r : DS.Started) → StartOn lengths k n p r → r.number ≡ given (place_rules lengths k n p)
-  pub cursor_place : (lengths : Lengths) (c : DC.Cursor) (r : DV.Value) → WhereOn lengths c r → r.number ≡ given (cursor_rules lengths c)
-  pub step : (lengths : Lengths) (c : DC.Cursor) (r : DT.Stepped) → StepOn lengths c r → r.number ≡ given (cursor_rules lengths c)
-  pub step_back : (lengths : Lengths) (c : DC.Cursor) (r : DT.Stepped) → BackOn lengths c r → r.number ≡ given (cursor_rules lengths c)
+  pub start_cursor : (lengths : Lengths) (k n p : ℕ) (r : Result DC.Cursor Refusal) → StartOn lengths k n p r → number_of r ≡ given (place_rules lengths k n p)
+  pub cursor_place : (lengths : Lengths) (c : DC.Cursor) (r : Result ℕ Refusal) → WhereOn lengths c r → number_of r ≡ given (cursor_rules lengths c)
+  pub step : (lengths : Lengths) (c : DC.Cursor) (r : Result DT.Stepped Refusal) → StepOn lengths c r → number_of r ≡ given (cursor_rules lengths c)
+  pub step_back : (lengths : Lengths) (c : DC.Cursor) (r : Result DT.Stepped Refusal) → BackOn lengths c r → number_of r ≡ given (cursor_rules lengths c)
   -- 9 applies just when the window, without fault itself, is read at no place where it lies in a section of the accepted plan
   pub not_laid : (s w : List ℕ) → given (plan_rules s) ≡ 0 → given (mark_rules (shades s) (marks s) w) ≡ 0
       → (laying_of s w ≡ 0) ↔ ((i p : ℕ) → Lies (marks s) (sections s) i p → window (shades s) (marks s) p ≢ w)

@@ -1,15 +1,17 @@
 -- Steps of a cursor on either ring, on and back: one, from any cursor without fault, and any number in a row.
-use Rattle.std.specs.Prelude.{◌≡◌, Bool, true, false, List, [], ◌∷◌, ℕ, zero, suc, ◌≤◌}
+use Rattle.std.specs.Prelude.{Result, ◌≡◌, Bool, true, false, List, [], ◌∷◌, ℕ, zero, suc, ◌≤◌}
 use Rattle.theory.specs.Lists.{each}
 use Rattle.theory.specs.Rings.{modulo, position_in, cursor_on, passed_to, passed_down, beside}
 use Rattle.shape.specs.declared.Lengths.{Lengths}
 use Rattle.shape.specs.Rings.{ok_of, size_of, letter_of}
 use Rattle.cursors.specs.declared.Cursor as DC
 use Rattle.cursors.specs.declared.Stepped as DT
-use Rattle.cursors.specs.Cursors.{cursor_in, fault_on, StepOn, BackOn}
+use Rattle.cursors.specs.Cursors.{mark_of, passed_of, after, cursor_in, fault_on, StepOn, BackOn}
+use Rattle.calls.specs.declared.refusal.Refusal.{Refusal}
+use Rattle.calls.specs.Codes.{number_of}
 
 -- true is a step on, false a step back: what the call promises, and the words passed from u to v
-abbrev pub Says : Lengths → Bool → DC.Cursor → DT.Stepped → Type 0
+abbrev pub Says : Lengths → Bool → DC.Cursor → Result DT.Stepped Refusal → Type 0
 Says lengths true c q = StepOn lengths c q
 Says lengths false c q = BackOn lengths c q
 
@@ -18,28 +20,28 @@ passed_going true k n u v = passed_to k n u v
 passed_going false k n u v = passed_down k n u v
 
 -- what a step q from a cursor c gives: the mark that it stood on, the words passed from the held word to the one held then, the cursor one place on or back
-pub record StepsOn (lengths : Lengths) (way : Bool) (c : DC.Cursor) (q : DT.Stepped) : Type 0 where
-  pub number : q.number ≡ 0
-  pub mark : q.mark ≡ letter_of lengths c.k c.n (position_in (ok_of lengths) (cursor_in c))
-  pub passed : q.passed ≡ passed_going way c.k c.n (cursor_in c).word (cursor_in q.cursor).word
-  pub few : q.passed ≤ c.n
-  pub strip : (q.cursor.k ≡ c.k) × (q.cursor.n ≡ c.n)
-  pub faultless : fault_on lengths q.cursor ≡ 0
-  pub place : position_in (ok_of lengths) (cursor_in q.cursor) ≡ beside (size_of lengths c.k c.n) way (position_in (ok_of lengths) (cursor_in c))
+pub record StepsOn (lengths : Lengths) (way : Bool) (c : DC.Cursor) (q : Result DT.Stepped Refusal) : Type 0 where
+  pub number : number_of q ≡ 0
+  pub mark : mark_of q ≡ letter_of lengths c.k c.n (position_in (ok_of lengths) (cursor_in c))
+  pub passed : passed_of q ≡ passed_going way c.k c.n (cursor_in c).word (cursor_in (after c q)).word
+  pub few : passed_of q ≤ c.n
+  pub strip : ((after c q).k ≡ c.k) × ((after c q).n ≡ c.n)
+  pub faultless : fault_on lengths (after c q) ≡ 0
+  pub place : position_in (ok_of lengths) (cursor_in (after c q)) ≡ beside (size_of lengths c.k c.n) way (position_in (ok_of lengths) (cursor_in c))
 
 -- from a cursor, the answers of its steps, and the cursor after them
-pub data Walked (lengths : Lengths) : DC.Cursor → List DT.Stepped → DC.Cursor → Type 0 where
+pub data Walked (lengths : Lengths) : DC.Cursor → List (Result DT.Stepped Refusal) → DC.Cursor → Type 0 where
   stays : {c : DC.Cursor} → Walked lengths c [] c
-  steps : {c d : DC.Cursor} (q : DT.Stepped) {qs : List DT.Stepped} → StepOn lengths c q → Walked lengths q.cursor qs d → Walked lengths c (q ∷ qs) d
+  steps : {c d : DC.Cursor} (q : Result DT.Stepped Refusal) {qs : List (Result DT.Stepped Refusal)} → StepOn lengths c q → Walked lengths (after c q) qs d → Walked lengths c (q ∷ qs) d
 
 -- the same both ways, by what a step of each way promises
-pub data Followed (promise : Bool → DC.Cursor → DT.Stepped → Type 0) : DC.Cursor → List Bool → List DT.Stepped → DC.Cursor → Type 0 where
+pub data Followed (promise : Bool → DC.Cursor → Result DT.Stepped Refusal → Type 0) : DC.Cursor → List Bool → List (Result DT.Stepped Refusal) → DC.Cursor → Type 0 where
   rests : {c : DC.Cursor} → Followed promise c [] [] c
-  goes : {c d : DC.Cursor} (way : Bool) (q : DT.Stepped) {ways : List Bool} {qs : List DT.Stepped} → promise way c q → Followed promise q.cursor ways qs d
+  goes : {c d : DC.Cursor} (way : Bool) (q : Result DT.Stepped Refusal) {ways : List Bool} {qs : List (Result DT.Stepped Refusal)} → promise way c q → Followed promise (after c q) ways qs d
       → Followed promise c (way ∷ ways) (q ∷ qs) d
 
 -- one field of each answer
-abbrev pub fields : (DT.Stepped → ℕ) → List DT.Stepped → List ℕ
+abbrev pub fields : (Result DT.Stepped Refusal → ℕ) → List (Result DT.Stepped Refusal) → List ℕ
 fields f qs = each f qs
 
 -- the words passed by c steps from a place on: from the word that holds a place to the one that holds the next; and along a path
