@@ -1,7 +1,7 @@
 #!/usr/bin/env python3
 """Compares the numbers, names and order of the refusals wherever they are written.
 
-The constants of refusals.rt and the definition `order` of Order.antt are the reference. C leaves out the numbers of which strip.h says that
+The cases of the enum Refusal and the definition `order` of Order.antt are the reference. C leaves out the numbers of which strip.h says that
 no call there gives them. Prints one line if all agree; else a line for each place that differs, or in which nothing is found to compare.
 """
 import re
@@ -11,7 +11,8 @@ from pathlib import Path
 import model
 
 ROOT = Path(__file__).resolve().parent.parent
-SOURCE = "crates/calls/src/refusals.rt"
+SOURCE = "crates/calls/src/refusal.rt"
+CODES = "crates/calls/specs/Codes.antt"
 SPECS = "crates/calls/specs/Order.antt"
 HEADER = "include/strip.h"
 README = "README.md"
@@ -67,8 +68,10 @@ def same(file, what, found, expected):
 
 def reference():
     """Names by number, and the order."""
-    pairs = re.findall(r"pub const ([A-Z_]+): u8 = (\d+);", text_of(SOURCE))
+    cases = re.findall(r"^    ([A-Z][A-Za-z]+) = (\d+),$", text_of(SOURCE), re.M)
+    pairs = [(re.sub(r"(?<!^)(?=[A-Z])", "_", case).upper(), number) for case, number in cases]
     names = {int(number): name for name, number in pairs}
+    same(CODES, "codes", re.findall(r"^code ([A-Z][A-Za-z]+) = (\d+)$", text_of(CODES), re.M), cases)
     order = order_defined()
     same(SOURCE, "numbers", sorted(int(number) for _, number in pairs), sorted(names))
     same(SPECS, "numbers in the definition `order`", sorted(order), sorted(names))
