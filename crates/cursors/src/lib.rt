@@ -218,6 +218,15 @@ fn back_on(lengths: Lengths, c: Cursor) -> Result<Stepped, Refusal>
 }
 
 impl Cursor {
+    // What stands for the cursor of a refused start: zero in every field.
+    pub const NOWHERE: Cursor = Cursor {
+        k: 0,
+        n: 0,
+        word: [0; Strip::LONGEST],
+        long: 0,
+        place: 0,
+    };
+
     // The mark that the cursor stands on, the words passed, and the cursor on the strip's next mark.
     pub fn step(self) -> Result<Stepped, Refusal>
         ensures { StepSays self result }
