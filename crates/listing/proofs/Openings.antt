@@ -10,10 +10,10 @@ use Rattle.theory.proofs.Records.{sections_count}
 use Rattle.theory.proofs.Laying.{section_straight}
 use Rattle.shape.specs.declared.Strip as DS
 use Rattle.shape.proofs.Limits.{limits}
-use Rattle.calls.specs.declared.Checked.{Checked}
-use Rattle.calls.specs.declared.Checked.TheVariants.{Refused}
-use Rattle.calls.proofs.Checks.{refused_by}
-use Rattle.plans.specs.Opened.{Opens, Accepted}
+use Rattle.calls.specs.declared.refusal.Refusal.{Refusal}
+use Rattle.calls.specs.Codes.{code}
+use Rattle.calls.proofs.Answers.{code_some}
+use Rattle.plans.specs.Opened.{Accepted}
 use Rattle.lines.specs.Lines.{refused_line}
 use Rattle.listing.specs.Listings.{strip_line, section_lines, listing}
 
@@ -22,8 +22,8 @@ module _ (s : List ℕ) {x : DS.Strip} (plan : Accepted s x) where
   pub section_starts : (i : ℕ) → i < section_count s → (nth_s (sections s) i).offset < x.size
   section_starts i h =
       let y = section_straight s plan.faultless i (omega (arith, sections_count s)) in
-      let size : x.size ≡ shades s ^ marks s = plan.shaped.size ∙ ap₂ ◌^◌ plan.letters plan.marked in
-      omega (arith, y.ends, y.wide, plan.marked, (limits plan.shaped).some, size)
+      let size : x.size ≡ shades s ^ marks s = x.whole ∙ ap₂ ◌^◌ plan.letters plan.marked in
+      omega (arith, y.ends, y.wide, plan.marked, (limits x).some, size)
 
   pub accepted_text : strip_line x.k x.n ++ section_lines x.k x.n 0 (sections s) ≡ listing s
   accepted_text =
@@ -31,8 +31,7 @@ module _ (s : List ℕ) {x : DS.Strip} (plan : Accepted s x) where
       ap₂ lines plan.letters plan.marked ∙ sym (ap (λ b. pick b (lines (shades s) (marks s)) (refused_line (plan_fault s))) (eq-eqb _ _ plan.faultless))
 
 -- a refused plan
-pub refused_text_lem : (s : List ℕ) {c : Checked} {f : ℕ} → Opens s c → c ≡ Refused f → refused_line f ≡ listing s
-refused_text_lem s {f = f} e h =
-    let (is, some) = refused_by (plan_fault s) (shades s) (marks s) e h in
+pub refused_text_lem : (s : List ℕ) {n : ℕ} (e : Refusal) → n ≡ code e → code e ≡ plan_fault s → refused_line n ≡ listing s
+refused_text_lem s e g h =
     let lines = strip_line (shades s) (marks s) ++ section_lines (shades s) (marks s) 0 (sections s) in
-    ap refused_line (sym is) ∙ sym (ap (λ b. pick b lines (refused_line (plan_fault s))) (ne_eqb (plan_fault s) 0 (λ z. some (sym is ∙ z))))
+    ap refused_line (g ∙ h) ∙ sym (ap (λ b. pick b lines (refused_line (plan_fault s))) (ne_eqb (plan_fault s) 0 (λ z. code_some e (h ∙ z))))

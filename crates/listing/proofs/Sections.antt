@@ -14,7 +14,6 @@ use Rattle.theory.proofs.Letters.{marks_up}
 use Rattle.theory.proofs.Reading.{letters-length}
 use Rattle.theory.proofs.Rings.{strip-marks}
 use Rattle.shape.specs.declared.Strip as DS
-use Rattle.shape.specs.Shapes.{Shaped}
 use Rattle.shape.proofs.Limits.{limits}
 use Rattle.texts.specs.Texts.{decimal, glyphs, fields, Adds}
 use Rattle.lines.specs.Lines.{line}
@@ -26,19 +25,19 @@ use Rattle.lines.proofs.Building.{Written, next_room, more_line}
 use Rattle.listing.proofs.Fields.{four_apart}
 
 -- a section's first window
-module _ {s : DS.Strip} (h : Shaped s) (x : Section) {v : List ℕ} (e : v ≡ marks_from s.k s.n x.offset (length (take s.n room))) where
+module _ (s : DS.Strip) (x : Section) {v : List ℕ} (e : v ≡ marks_from s.k s.n x.offset (length (take s.n room))) where
   first_window : v ≡ window s.k s.n x.offset
-  first_window = e ∙ ap (marks_from s.k s.n x.offset) (in_room h)
+  first_window = e ∙ ap (marks_from s.k s.n x.offset) (in_room s)
 
   pub window_short : length v ≤ 60
-  window_short = omega (arith, ap length first_window, letters-length (s.k ^ s.n) (strip s.k s.n) x.offset s.n, (limits h).short)
+  window_short = omega (arith, ap length first_window, letters-length (s.k ^ s.n) (strip s.k s.n) x.offset s.n, (limits s).short)
 
   pub digits_short : length (glyphs v) ≤ 60
   digits_short = omega (arith, glyphs-length v, window_short)
 
   pub window_digits : marks_ok 36 v ≡ true
   window_digits =
-      let l = limits h in
+      let l = limits s in
       let w = window s.k s.n x.offset in
       let ok = strip-marks s.k s.n x.offset s.n l.two l.some in
       rw first_window (marks_up s.k 36 w l.most ok)

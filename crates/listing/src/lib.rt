@@ -3,14 +3,12 @@
 
 ghost use Rattle.std.specs.Prelude.{◌+◌, ◌≤◌, ◌<◌, length};
 ghost use Rattle.theory.specs.Plans.{sections};
-ghost use Rattle.shape.specs.Shapes.{Shaped};
 ghost use Rattle.texts.specs.Texts.{Adds};
 ghost use Rattle.sections.specs.Read.{section_of};
 ghost use Rattle.plans.specs.Opened.{Accepted};
 ghost use Rattle.lines.specs.Lines.{line};
 ghost use Rattle.listing.specs.Listings.{most, strip_line, section_line, section_lines, listing};
 
-use calls::Checked;
 use sections::Section;
 use shape::{Lengths, Strip};
 
@@ -19,7 +17,7 @@ pub const MOST: usize = lines::LINE * 501;
 
 // The strip that a plan is laid on.
 fn put_strip(s: Strip, out: &mut [u8]) -> usize
-    requires { Shaped s × (line ≤ length out.old) }
+    requires { line ≤ length out.old }
     ensures { Adds out.old 0 (strip_line s.k s.n) out.new result × (result ≤ line) }
 {
     let word = texts::put_bytes(b"strip ", out, 0);
@@ -30,7 +28,7 @@ fn put_strip(s: Strip, out: &mut [u8]) -> usize
 
 // The number, offset and length of a section, and its first window.
 fn put_section(s: Strip, i: u64, section: Section, out: &mut [u8], at: usize) -> usize
-    requires { Shaped s × (section.offset < s.size) × (at + line ≤ length out.old) }
+    requires { (section.offset < s.size) × (at + line ≤ length out.old) }
     ensures { Adds out.old at (section_line s.k s.n i (section_of section)) out.new result × (result ≤ at + line) }
 {
     let number = texts::put_number(i, b' ', out, at);
@@ -60,12 +58,11 @@ pub fn text(plan: &[u8], out: &mut [u8]) -> usize
     requires { most ≤ length out.old }
     ensures { Adds out.old 0 (listing plan.now) out.new result }
 {
-    let opened = plans::open(plan);
-    match opened {
-        Checked::Strip(s) => {
+    match plans::open(plan) {
+        Ok(s) => {
             let end = put_strip(s, out);
             put_sections(plan, s, out, end)
         }
-        Checked::Refused(number) => lines::put_refused(number, out),
+        Err(refusal) => lines::put_refused(u8::from(refusal), out),
     }
 }

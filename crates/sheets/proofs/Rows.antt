@@ -69,6 +69,6 @@ pub sized_sheet : {s : DS.Strip} {w t : List ℕ} → WordOn s w → Sized s.k (
 sized_sheet {s} {w} {t} h z =
     let n = s.n in
     let v = necklace_up_to s.k w in
-    let term : (d : ℕ) → In d (divisors_in n n) → summand n t d ≡ rank_term s.k v d = λ d i. summand_is s.k n v t (floored h).0.long z d (in_part n n (limits h.shaped).some d i) in
+    let term : (d : ℕ) → In d (divisors_in n n) → summand n t d ≡ rank_term s.k v d = λ d i. summand_is s.k n v t (floored h).0.long z d (in_part n n (limits s).some d i) in
     from_same (summand n t) (rank_term s.k v) (pos 0) (divisors_in n n) term
     ∙ ap (sheet_from (rank_term s.k v) (pos 0)) (in_all n n (le_refl n) ∙ ap divisors_down (sym h.long))

@@ -2,15 +2,15 @@
 // running sum; or the one line of a refusal.
 #![tactic(auto)]
 
-ghost use Rattle.std.specs.Prelude.{◌+◌, ◌≤◌, ◌<◌, length};
+ghost use Rattle.std.specs.Prelude.{IfOk, ◌+◌, ◌≤◌, ◌<◌, length};
 ghost use Rattle.shape.specs.Shapes.{WordOn};
 ghost use Rattle.moebius.specs.Summands.{Summable, summand};
 ghost use Rattle.texts.specs.Texts.{Adds};
 ghost use Rattle.lines.specs.Lines.{line};
 ghost use Rattle.calls.specs.Checks.{Checks};
-ghost use Rattle.sheets.specs.Worksheets.{letters, long, most, line_at, sheet, sheet_fault, worksheet};
+ghost use Rattle.sheets.specs.Worksheets.{letters, long, word_in, most, line_at, sheet, sheet_fault, worksheet};
 
-use calls::{Checked, refusals};
+use calls::Refusal;
 use shape::Strip;
 
 // Bytes that hold any worksheet: a word has at most 60 letters.
@@ -20,11 +20,12 @@ pub const MOST: usize = lines::LINE * Strip::LONGEST;
 const WORD: usize = 2;
 
 // Is there such a strip, and is the word one of n letters on it? Without n there is none.
-fn check(input: &[u8]) -> Checked
-    ensures { Checks (sheet_fault input.now) (letters input.now) (long input.now) result }
+fn check(input: &[u8]) -> Result<Strip, Refusal>
+    ensures strip { Checks (sheet_fault input.now) (letters input.now) (long input.now) result }
+    ensures word { IfOk result (λ s. (2 ≤ length input.now) × WordOn s (word_in input.now)) }
 {
     if input.len() < WORD {
-        return Checked::Refused(refusals::NO_SUCH_STRIP);
+        return Err(Refusal::NoSuchStrip);
     }
     calls::check_word(input[0] as u64, input[1] as u64, &input[WORD..])
 }
@@ -64,7 +65,7 @@ pub fn text(input: &[u8], out: &mut [u8]) -> usize
     ensures { Adds out.old 0 (worksheet input.now) out.new result }
 {
     match check(input) {
-        Checked::Strip(s) => put_sheet(s, &input[WORD..], out),
-        Checked::Refused(number) => lines::put_refused(number, out),
+        Ok(s) => put_sheet(s, &input[WORD..], out),
+        Err(refusal) => lines::put_refused(u8::from(refusal), out),
     }
 }

@@ -9,7 +9,6 @@ use Rattle.listing.proofs.put_sections.Goals as goal
 pub put_section-filled-requires : goal.put_section-filled-requires
 put_section-filled-requires c =
     let plan = c.args.plan.now in (
-      c.requires.0.shaped,
       omega (arith, ap (λ x. x.offset) c.section_at.ensures, section_starts plan c.requires.0 c.loop-i.i (omega arith)),
       line-room c.loop-i.invariant c.requires.1 (omega (arith, accepted_whole plan c.requires.0.faultless)) c.requires.2,
     )
