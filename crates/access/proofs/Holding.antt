@@ -6,10 +6,10 @@ use mathlib.Core.List.{List, []}
 use Prim.Native.Nat.{ℕ, ◌+◌, ◌-◌, ◌/◌, ◌%◌, ◌^◌, ◌≤◌, ◌<◌}
 use native.Mathlib.Omega.{arith}
 use lib.Dec.{ltb}
-use lib.ListN.{length, take, drop}
+use lib.ListN.{length, take}
 use native.Mathlib.Nat.{mod-lt}
 use native.Mathlib.Numerals.{add-one}
-use lib.Seq.{take_at, take_all, drop_at}
+use lib.Seq.{take_all}
 use borrow.Author.Tests.{ltb-true, eq-eqb}
 use Rattle.theory.specs.Words.{smallest, root, marks_ok, is_lyndon, how_many, word_of}
 use Rattle.theory.specs.Sums.{cs}
@@ -29,18 +29,15 @@ use Rattle.theory.specs.Prenecklaces.{Prenecklace}
 use Rattle.theory.proofs.Necklaces.{smallest_pre}
 use Rattle.theory.proofs.Divisors.{divides_le}
 use Rattle.shape.specs.declared.Strip as DS
-use Rattle.shape.specs.declared.Lengths.{Lengths}
 use Rattle.shape.specs.declared.Lengths.TheVariants.{Divisors, Whole}
 use Rattle.shape.specs.Shapes.{WordOn}
 use Rattle.shape.proofs.Limits.{limits}
 use Rattle.shape.proofs.Rings.{size-most}
 use Rattle.automaton.specs.Tables.{Counted}
-use Rattle.buffers.specs.Buffers.{over}
 use Rattle.rings.specs.Moves.{HeldOn}
-use Rattle.rings.proofs.Moving.{held_fits, held-length}
 use Rattle.ranks.proofs.Shapes.{counted}
 use Rattle.access.specs.declared.Spot as DP
-use Rattle.access.specs.Holders.{HoldsAt, PutAt}
+use Rattle.access.specs.Holders.{HoldsAt}
 
 -- the word found
 abbrev pub found : ℕ → ℕ → ℕ → List ℕ
@@ -147,16 +144,3 @@ module _ (s : DS.Strip) (p : ℕ) (l : p < short_size s.k s.n) where
 
       word : take s.n v ≡ word_of s.k s.n (p / s.n + 1)
       word = take_all s.n v (omega (arith, long)) ∙ e
-
--- the word copied over the start of another buffer
-pub put_at : {lengths : Lengths} {s : DS.Strip} {p : ℕ} {v before after : List ℕ} {r : DP.Spot} → HoldsAt lengths s p v r → after ≡ over (take r.long v) before
-    → PutAt lengths s p before after r
-put_at {lengths} {s} {p} {v} {before} {after} {r} h e =
-    let long : length (take r.long v) ≡ r.long = held-length h.held in
-    let word : take r.long after ≡ take r.long v = ap (take r.long) e ∙ take_at (take r.long v) _ r.long long in
-    record {
-      stands = ap (λ w. cursor s.k s.n w r.at) word ∙ h.is;
-      rest = ap (drop r.long) e ∙ drop_at (take r.long v) _ r.long long ∙ ap (λ l. drop l before) long;
-      fits = omega (arith, held_fits h.held, h.held.size);
-      inside = h.inside;
-    }

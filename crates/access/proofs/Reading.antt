@@ -11,7 +11,7 @@ use Rattle.theory.specs.Rings.{cursor, position_in}
 use Rattle.shape.specs.declared.Lengths.{Lengths}
 use Rattle.shape.specs.Rings.{ok_of, size_in, letter_of, letters_of}
 use Rattle.shape.proofs.Rings.{size_in_lem, cursors_of}
-use Rattle.rings.proofs.Moving.{held_fits, held-length, held_in}
+use Rattle.rings.proofs.Moving.{held-length, held_in}
 use Rattle.rings.proofs.Printing.{word_read}
 use Rattle.access.specs.declared.Spot as DP
 use Rattle.access.specs.Holders.{HoldsAt}
@@ -28,9 +28,6 @@ module _ {lengths : Lengths} {s : DS.Strip} (p : ℕ) {v : List ℕ} {r : DP.Spo
   held_place =
       let t = limits s in
       ap (position_in (ok_of lengths)) a.is ∙ ((cursors_of lengths).there s.k s.n p t.two t.some (subst (λ x. p < x) (size_in_lem lengths s) l)).1
-
-  pub held_inside : r.at < length v
-  held_inside = omega (arith, a.inside, held_fits a.held)
 
   pub held_letter : get_or v r.at 0 ≡ letter_of lengths s.k s.n p
   held_letter =

@@ -1,11 +1,7 @@
 -- `access::position` is the place of a letter of a held word.
 use native.Mathlib.Omega.{arith}
-use Rattle.rings.proofs.Moving.{held_fits}
 use Rattle.access.proofs.Ending.{ending_asks, ends_at}
 use Rattle.access.proofs.position.Goals as goal
-
-pub extend-requires : goal.extend-requires
-extend-requires c = (omega (arith, c.requires.1), held_fits c.requires.0)
 
 pub end_of-end-requires : goal.end_of-end-requires
 end_of-end-requires c = ending_asks c.requires.0 c.extend.ensures

@@ -2,22 +2,12 @@
 use mathlib.Core.Path.{refl}
 use native.Mathlib.Omega.{arith}
 use native.Mathlib.Nat.{div-le_self}
-use Rattle.shape.proofs.Limits.{limits}
-use Rattle.access.proofs.Holding.{index_within, index_small, short_is}
+use Rattle.access.proofs.Holding.{index_small, short_is}
 use Rattle.access.proofs.short_holder.Goals as goal
-
-pub nonzero_div-p : goal.nonzero_div-p
-nonzero_div-p c = (limits c.args.s).some
 
 pub overflow_add-p : goal.overflow_add-p
 overflow_add-p c =
     omega (arith, index_small c.args.s c.args.p c.requires.0, div-le_self c.args.p c.args.s.n)
-
-pub find-requires : goal.find-requires
-find-requires c = (index_within c.args.s c.args.p c.requires.0, c.requires.1)
-
-pub nonzero_rem-result : goal.nonzero_rem-result
-nonzero_rem-result c = (limits c.args.s).some
 
 pub returns : goal.returns
 returns c = short_is c.args.s c.args.p c.requires.0 c.find.ensures refl refl
