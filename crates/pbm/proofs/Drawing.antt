@@ -17,7 +17,6 @@ use Rattle.theory.proofs.Reading.{letters-length}
 use Rattle.theory.proofs.Rings.{strip-marks}
 use Rattle.buffers.specs.Buffers.{over}
 use Rattle.shape.specs.declared.Strip as DS
-use Rattle.shape.specs.Shapes.{Shaped}
 use Rattle.shape.proofs.Limits.{limits}
 use Rattle.texts.specs.Texts.{Adds}
 use Rattle.texts.proofs.Adding.{adds_within, adds_part, adds_more}
@@ -33,12 +32,12 @@ lent-end a xs ys h =
     drop_at (take a xs) (ys ++ post_of a (length xs - a) xs) a (length-take-le a xs h) ∙ ap (λ r. ys ++ r) none ∙ append-nil ys
 
 -- the digits of up to ten shades
-module _ {s : DS.Strip} (h : Shaped s) (ten : s.k ≤ 10) (p c : ℕ) where
+module _ (s : DS.Strip) (ten : s.k ≤ 10) (p c : ℕ) where
   abbrev marks : List ℕ
   marks = marks_from s.k s.n p c
 
   digits : marks_ok 10 marks ≡ true
-  digits = let l = limits h in marks_up s.k 10 marks ten (strip-marks s.k s.n p c l.two l.some)
+  digits = let l = limits s in marks_up s.k 10 marks ten (strip-marks s.k s.n p c l.two l.some)
 
   -- marks put over the last c bytes of a buffer that the row will fill
   module _ (some : 1 ≤ c) (out : List ℕ) (fits : length out ≡ row_size c) {last : List ℕ}

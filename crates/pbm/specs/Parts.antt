@@ -1,7 +1,6 @@
 -- What can be drawn, how large, and a file in its parts: the head, and the row behind it, which is written several times.
 use Rattle.std.specs.Prelude.{◌≡◌, List, ◌++◌, ℕ, ◌+◌, ◌≤◌, ◌<◌, length}
 use Rattle.shape.specs.declared.Strip as DS
-use Rattle.shape.specs.Shapes.{Shaped}
 use Rattle.texts.specs.Texts.{Adds}
 use Rattle.pbm.specs.Pictures.{row_size}
 use Rattle.pbm.specs.declared.Parts as DP
@@ -15,7 +14,6 @@ pub record Frame (c h : ℕ) : Type 0 where
 
 -- c marks from place p on in h rows; the marks of up to ten shades are digits
 pub record Drawable (s : DS.Strip) (p c h : ℕ) : Type 0 where
-  pub shaped : Shaped s
   pub digits : s.k ≤ 10
   pub inside : p < s.size
   pub frame : Frame c h

@@ -5,7 +5,6 @@ ghost use Rattle.std.specs.Prelude.{◌≡◌, true, ◌+◌, ◌≤◌, ◌<◌
 ghost use Rattle.theory.specs.Words.{marks_ok};
 ghost use Rattle.theory.specs.Strips.{marks_from};
 ghost use Rattle.buffers.specs.Buffers.{over};
-ghost use Rattle.shape.specs.Shapes.{Shaped};
 ghost use Rattle.texts.specs.Texts.{Adds};
 ghost use Rattle.pbm.specs.Pictures.{row_size, file_size, row_text, head_text, picture};
 ghost use Rattle.pbm.specs.Parts.{Frame, Drawable, Parted};
@@ -57,7 +56,7 @@ fn spread(out: &mut [u8], lead: usize)
 
 // The row of the marks from a place on, over the whole buffer.
 fn put_row(s: Strip, place: u64, width: u64, out: &mut [u8])
-    requires { Shaped s × (s.k ≤ 10) × (place < s.size) × (1 ≤ width) × (length out.old ≡ row_size width) }
+    requires { (s.k ≤ 10) × (place < s.size) × (1 ≤ width) × (length out.old ≡ row_size width) }
     ensures { out.new ≡ row_text (marks_from s.k s.n place width) }
 {
     let lead = out.len() - width as usize;

@@ -4,4 +4,4 @@ use Rattle.pbm.proofs.put_row.Goals as goal
 
 pub spread-requires : goal.spread-requires
 spread-requires c =
-    row_fits c.requires.0 c.requires.1 c.args.place c.args.width c.requires.3 c.args.out.now c.requires.4 c.letters.ensures
+    row_fits c.args.s c.requires.0 c.args.place c.args.width c.requires.2 c.args.out.now c.requires.3 c.letters.ensures
