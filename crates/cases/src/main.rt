@@ -1,6 +1,8 @@
 // Runs the cases of the documents that the calls on words and on bills answer: a line for each call, with what it was asked, its number, its answer.
 #![tactic(auto)]
 
+use calls::Refusal;
+
 // Between two fields.
 fn space() {
     io::write_all(1, b" ");
@@ -8,29 +10,25 @@ fn space() {
 
 // A letter in decimal.
 fn letter(x: u8) {
-    io::print_decimal(1, x as u64);
+    io::print_decimal(1, u64::from(x));
 }
 
 // A word or what a tray holds, letter by letter.
 fn letters(word: &[u8]) {
-    let mut i = 0;
-    while i < word.len() {
-        letter(word[i]);
-        i += 1;
+    for &x in word {
+        letter(x);
     }
 }
 
 // A byte in two hexadecimal digits.
 fn byte(x: u8) {
-    io::print_hex(1, x as u64, 2);
+    io::print_hex(1, u64::from(x), 2);
 }
 
 // What a tray holds, byte by byte.
 fn bytes(tray: &[u8]) {
-    let mut i = 0;
-    while i < tray.len() {
-        byte(tray[i]);
-        i += 1;
+    for &x in tray {
+        byte(x);
     }
 }
 
@@ -44,22 +42,31 @@ fn asked(call: &[u8], k: u64, n: u64) {
     space();
 }
 
+// The number of an answer, and its value, for which 0 stands if it is refused.
+fn number_and_value(answer: Result<u64, Refusal>) -> (u8, u64) {
+    match answer {
+        Ok(value) => (0, value),
+        Err(refusal) => (u8::from(refusal), 0),
+    }
+}
+
 // The end of a line: number and value.
-fn answered(answer: calls::Value) {
-    io::print_decimal(1, answer.number as u64);
+fn answered(answer: Result<u64, Refusal>) {
+    let (number, value) = number_and_value(answer);
+    io::print_decimal(1, u64::from(number));
     space();
-    io::print_decimal(1, answer.value);
+    io::print_decimal(1, value);
     io::write_all(1, b"\n");
 }
 
 // rank_of, in a tray that is two bytes too long.
 fn rank(k: u64, n: u64, word: &[u8]) {
     let mut tray = [170u8; 10];
-    let number = ranking::rank_of(k, n, word, &mut tray);
+    let answer = ranking::rank_of(k, n, word, &mut tray);
     asked(b"rank", k, n);
     letters(word);
     space();
-    io::print_decimal(1, number as u64);
+    io::print_decimal(1, u64::from(calls::number(answer)));
     space();
     bytes(&tray);
     io::write_all(1, b"\n");
@@ -68,11 +75,11 @@ fn rank(k: u64, n: u64, word: &[u8]) {
 // word_of, in a tray of 8 bytes.
 fn word(k: u64, n: u64, index: u64) {
     let mut tray = [7u8; 8];
-    let number = ranking::word_of(k, n, index, &mut tray);
+    let answer = ranking::word_of(k, n, index, &mut tray);
     asked(b"word", k, n);
     io::print_decimal(1, index);
     space();
-    io::print_decimal(1, number as u64);
+    io::print_decimal(1, u64::from(calls::number(answer)));
     space();
     letters(&tray);
     io::write_all(1, b"\n");
@@ -80,12 +87,9 @@ fn word(k: u64, n: u64, index: u64) {
 
 // The words of the indices up to `last`, from index 0, which has none.
 fn words(k: u64, n: u64, last: u64) {
-    let mut i = 0;
-    while i < last {
-        word(k, n, i);
-        i += 1;
+    for index in 0..=last {
+        word(k, n, index);
     }
-    word(k, n, last);
 }
 
 // lyndon_count.
@@ -105,15 +109,15 @@ fn tests(k: u64, n: u64, word: &[u8]) {
     space();
     answered(words::shortest_root(k, n, word));
     let mut tray = [7u8; 8];
-    let rotation = words::smallest_rotation(k, n, word, &mut tray);
+    let (number, turn) = number_and_value(words::smallest_rotation(k, n, word, &mut tray));
     asked(b"rotation", k, n);
     letters(word);
     space();
-    io::print_decimal(1, rotation.number as u64);
+    io::print_decimal(1, u64::from(number));
     space();
     letters(&tray);
     space();
-    io::print_decimal(1, rotation.value);
+    io::print_decimal(1, turn);
     io::write_all(1, b"\n");
 }
 
