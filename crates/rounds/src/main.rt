@@ -2,160 +2,207 @@
 // marks as print_marks gives them. Then the same on short rings.
 #![tactic(auto)]
 
-use cursors::{Cursor, Started, Stepped};
+use calls::Refusal;
+use cursors::{Cursor, Stepped};
 
-// A number in decimal.
-fn number(v: u64) {
-    io::print_decimal(1, v);
+const STDOUT: i32 = 1;
+
+// Steps of a walk, and marks that are printed after it.
+const STEPS: usize = 80;
+
+// The walks of tests/rounds.py, in their order: k, n and the place that each starts at.
+const WALKS: [(u64, u64, u64); 14] = [
+    (2, 5, 0),
+    (2, 6, 0),
+    (2, 6, 63),
+    (3, 4, 40),
+    (4, 1, 3),
+    (36, 2, 1290),
+    (2, 60, 0),
+    (2, 60, 1152921504606846970),
+    (2, 60, 123456789012345678),
+    (2, 60, 1000000000000000003),
+    (10, 18, 314159265358979323),
+    (36, 11, 98765432109876543),
+    (2, 6, 64),
+    (2, 61, 0),
+];
+
+const SHORT_WALKS: [(u64, u64, u64); 16] = [
+    (2, 5, 0),
+    (2, 6, 0),
+    (2, 6, 53),
+    (3, 4, 40),
+    (4, 1, 3),
+    (2, 2, 1),
+    (2, 12, 3010),
+    (36, 2, 1254),
+    (2, 60, 0),
+    (2, 60, 1152921503532053547),
+    (2, 60, 123456789012345678),
+    (2, 60, 1000000000000000003),
+    (10, 18, 314159265358979323),
+    (36, 11, 98765432109876543),
+    (2, 6, 54),
+    (2, 61, 0),
+];
+
+// What stands for a cursor where there is none: zero in every field.
+const NOWHERE: Cursor = Cursor {
+    k: 0,
+    n: 0,
+    word: [0; 60],
+    long: 0,
+    place: 0,
+};
+
+// The calls on a ring.
+trait Ring {
+    fn start(k: u64, n: u64, place: u64) -> Result<Cursor, Refusal>;
+
+    fn place(c: Cursor) -> Result<u64, Refusal>;
+
+    // The step of a turn.
+    fn step(c: Cursor, turn: usize) -> Result<Stepped, Refusal>;
+
+    fn mark_at(k: u64, n: u64, place: u64, tray: &mut [u8]) -> Result<(), Refusal>;
+
+    fn print_marks(k: u64, n: u64, place: u64, marks: u64, tray: &mut [u8]) -> Result<(), Refusal>;
 }
 
-// Between two fields.
-fn space() {
-    io::write_all(1, b" ");
+// The strip, on which the step is taken by the method and by the function, in turn.
+struct Strip;
+
+impl Ring for Strip {
+    fn start(k: u64, n: u64, place: u64) -> Result<Cursor, Refusal> {
+        cursors::start_cursor(k, n, place)
+    }
+
+    fn place(c: Cursor) -> Result<u64, Refusal> {
+        cursors::cursor_place(c)
+    }
+
+    fn step(c: Cursor, turn: usize) -> Result<Stepped, Refusal> {
+        if turn % 2 == 0 {
+            return c.step();
+        }
+        cursors::step_cursor(c)
+    }
+
+    fn mark_at(k: u64, n: u64, place: u64, tray: &mut [u8]) -> Result<(), Refusal> {
+        marks::mark_at(k, n, place, tray)
+    }
+
+    fn print_marks(k: u64, n: u64, place: u64, marks: u64, tray: &mut [u8]) -> Result<(), Refusal> {
+        marks::print_marks(k, n, place, marks, tray)
+    }
+}
+
+struct ShortRing;
+
+impl Ring for ShortRing {
+    fn start(k: u64, n: u64, place: u64) -> Result<Cursor, Refusal> {
+        cursors::short_start_cursor(k, n, place)
+    }
+
+    fn place(c: Cursor) -> Result<u64, Refusal> {
+        cursors::short_cursor_place(c)
+    }
+
+    fn step(c: Cursor, _turn: usize) -> Result<Stepped, Refusal> {
+        c.short_step()
+    }
+
+    fn mark_at(k: u64, n: u64, place: u64, tray: &mut [u8]) -> Result<(), Refusal> {
+        marks::short_mark_at(k, n, place, tray)
+    }
+
+    fn print_marks(k: u64, n: u64, place: u64, marks: u64, tray: &mut [u8]) -> Result<(), Refusal> {
+        marks::short_print_marks(k, n, place, marks, tray)
+    }
 }
 
 // A number and what parts it from the next.
 fn field(v: u64) {
-    number(v);
-    space();
+    io::print_decimal(STDOUT, v);
+    io::write_all(STDOUT, b" ");
 }
 
-// A byte in decimal.
-fn letter(x: u8) {
-    number(x as u64);
+// A byte in decimal, and the same.
+fn byte(x: u8) {
+    field(u64::from(x));
 }
 
 // The end of a line.
 fn end() {
-    io::write_all(1, b"\n");
+    io::write_all(STDOUT, b"\n");
 }
 
-// The mark that mark_at tells for a place, or short_mark_at.
-fn mark(short: bool, k: u64, n: u64, place: u64) -> u8 {
+// The mark that mark_at tells for a place, or 255, which was there.
+fn mark_at<R: Ring>(k: u64, n: u64, place: u64) -> u8 {
     let mut tray = [255u8; 8];
-    if short {
-        marks::short_mark_at(k, n, place, &mut tray);
-        return tray[7];
-    }
-    marks::mark_at(k, n, place, &mut tray);
+    let _ = R::mark_at(k, n, place, &mut tray);
     tray[7]
 }
 
-// A cursor at a place.
-fn start(short: bool, k: u64, n: u64, place: u64) -> Started {
-    if short {
-        return cursors::short_start_cursor(k, n, place);
+// The number of an answer, and what it holds, or what stands for that if it is refused.
+fn parts<T: Drop>(answer: Result<T, Refusal>, refused: T) -> (u8, T) {
+    match answer {
+        Ok(held) => (0, held),
+        Err(refusal) => (u8::from(refusal), refused),
     }
-    cursors::start_cursor(k, n, place)
 }
 
-// The place of a cursor.
-fn stands(short: bool, c: Cursor) -> u64 {
-    if short {
-        return cursors::short_cursor_place(c).value;
-    }
-    cursors::cursor_place(c).value
-}
-
-// The step of a turn: on the strip by the method and by the function, in turn.
-fn moved(short: bool, c: Cursor, turn: u64) -> Stepped {
-    if short {
-        return c.short_step();
-    }
-    if turn % 2 == 0 {
-        return c.step();
-    }
-    cursors::step_cursor(c)
-}
-
-// One step, printed.
-fn step(short: bool, k: u64, n: u64, c: Cursor, turn: u64) -> Cursor {
-    let at = stands(short, c);
-    let stepped = moved(short, c, turn);
+// One step, printed. A refused one leaves the cursor as it is.
+fn step<R: Ring>(k: u64, n: u64, c: Cursor, turn: usize) -> Cursor {
+    let at = R::place(c).unwrap_or(0);
+    let unmoved = Stepped {
+        mark: 0,
+        passed: 0,
+        cursor: c,
+    };
+    let (number, stepped) = parts(R::step(c, turn), unmoved);
     field(at);
-    letter(stepped.number);
-    space();
-    letter(stepped.mark);
-    space();
+    byte(number);
+    byte(stepped.mark);
     field(stepped.passed);
-    letter(mark(short, k, n, at));
+    io::print_decimal(STDOUT, u64::from(mark_at::<R>(k, n, at)));
     end();
     stepped.cursor
 }
 
-// A line for the start, then one for each of so many steps.
-fn walk(short: bool, k: u64, n: u64, place: u64, count: u64) {
+// A line for the start, then one for each step.
+fn walk<R: Ring>(k: u64, n: u64, place: u64) {
+    let (number, mut at) = parts(R::start(k, n, place), NOWHERE);
     field(k);
     field(n);
     field(place);
-    let started = start(short, k, n, place);
-    letter(started.number);
+    io::print_decimal(STDOUT, u64::from(number));
     end();
-    let mut at = started.cursor;
-    let mut i = 0;
-    while i < count {
-        at = step(short, k, n, at, i);
-        i += 1;
+    for turn in 0..STEPS {
+        at = step::<R>(k, n, at, turn);
     }
 }
 
-// A tray, printed.
-fn printed(tray: &[u8]) {
-    let mut i = 0;
-    while i < tray.len() {
-        letter(tray[i]);
-        space();
-        i += 1;
+// As many marks as a walk has steps, in one row.
+fn row<R: Ring>(k: u64, n: u64, place: u64) {
+    let mut tray = [255u8; STEPS];
+    let _ = R::print_marks(k, n, place, STEPS as u64, &mut tray);
+    for mark in tray {
+        byte(mark);
     }
     end();
 }
 
-// Steps, and the same 80 marks printed, on the strip.
-fn both(k: u64, n: u64, place: u64) {
-    walk(false, k, n, place, 80);
-    let mut tray = [255u8; 80];
-    marks::print_marks(k, n, place, 80, &mut tray);
-    printed(&tray);
+// Each walk, and the same marks in a row.
+fn walks<R: Ring>(starts: &[(u64, u64, u64)]) {
+    for &(k, n, place) in starts {
+        walk::<R>(k, n, place);
+        row::<R>(k, n, place);
+    }
 }
 
-// And on the short ring.
-fn short(k: u64, n: u64, place: u64) {
-    walk(true, k, n, place, 80);
-    let mut tray = [255u8; 80];
-    marks::short_print_marks(k, n, place, 80, &mut tray);
-    printed(&tray);
-}
-
-// The walks of tests/rounds.py, in their order.
 fn main() {
-    both(2, 5, 0);
-    both(2, 6, 0);
-    both(2, 6, 63);
-    both(3, 4, 40);
-    both(4, 1, 3);
-    both(36, 2, 1290);
-    both(2, 60, 0);
-    both(2, 60, 1152921504606846970);
-    both(2, 60, 123456789012345678);
-    both(2, 60, 1000000000000000003);
-    both(10, 18, 314159265358979323);
-    both(36, 11, 98765432109876543);
-    both(2, 6, 64);
-    both(2, 61, 0);
-    short(2, 5, 0);
-    short(2, 6, 0);
-    short(2, 6, 53);
-    short(3, 4, 40);
-    short(4, 1, 3);
-    short(2, 2, 1);
-    short(2, 12, 3010);
-    short(36, 2, 1254);
-    short(2, 60, 0);
-    short(2, 60, 1152921503532053547);
-    short(2, 60, 123456789012345678);
-    short(2, 60, 1000000000000000003);
-    short(10, 18, 314159265358979323);
-    short(36, 11, 98765432109876543);
-    short(2, 6, 54);
-    short(2, 61, 0);
+    walks::<Strip>(&WALKS);
+    walks::<ShortRing>(&SHORT_WALKS);
 }
