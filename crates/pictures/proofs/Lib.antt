@@ -1,4 +1,3 @@
 -- Laws of pictures as answers.
 pub mod Framing
-pub mod Answering
 pub mod Requesting

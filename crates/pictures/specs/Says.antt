@@ -1,13 +1,13 @@
 -- What the calls on pictures promise. A tray holds t at the call and t' at the return; for C, s and s' are those of the file's size.
-use Rattle.std.specs.Prelude.{List, [], ℕ, eqb, length}
+use Rattle.std.specs.Prelude.{Result, List, [], ℕ, eqb, length}
 use Rattle.theory.specs.Words.{pick}
-use Rattle.calls.specs.declared.Value as DV
+use Rattle.calls.specs.declared.refusal.Refusal.{Refusal}
 use Rattle.calls.specs.Refusals.{picture_fault}
 use Rattle.calls.specs.Answers.{IntoValue, IntoBoth}
 use Rattle.pbm.specs.Pictures.{picture}
 
 -- the file into the tray, its size as the value
-abbrev pub PictureSays : ℕ → ℕ → ℕ → ℕ → ℕ → List ℕ → List ℕ → DV.Value → Type 0
+abbrev pub PictureSays : ℕ → ℕ → ℕ → ℕ → ℕ → List ℕ → List ℕ → Result ℕ Refusal → Type 0
 PictureSays k n p c h t t' r =
     let f = picture_fault k n p c h in
     let b = picture k n p c h in

@@ -1,50 +1,28 @@
--- `parts` reads a request; refused, of another size, or without room, it has none.
-use mathlib.Core.Path.{refl}
-use Prim.Native.Nat.{◌+◌, ◌≤◌}
-use native.Mathlib.Omega.{arith}
-use lib.ListN.{length, get_or}
-use Rattle.calls.specs.Refusals.{picture_fault}
-use Rattle.calls.proofs.Checks.{refused_by}
-use Rattle.pbm.specs.Pictures.{head_text, row_size}
-use Rattle.pbm.specs.Parts.{parts_room}
+-- `parts` reads a request; refused, it has no parts, and there is room for any head.
+use Rattle.std.proofs.Common.{◌≡◌, arith, rules, ◌∙◌}
+use Rattle.calls.proofs.Answers.{code_some}
 use Rattle.pbm.proofs.Rows.{head_most}
-use Rattle.pictures.proofs.Framing.{Passed, checked}
-use Rattle.pictures.proofs.Requesting.{no_room, other_size, refused, parted}
-use Rattle.pictures.proofs.parts.Goals.{In-Strip}
+use Rattle.pictures.specs.Requests.{Request, request}
+use Rattle.pictures.proofs.Requesting.{refused, parted}
+use Rattle.pictures.proofs.parts.Goals.{After-check}
 use Rattle.pictures.proofs.parts.Goals as goal
 
-pub returns-then-out-lt-MOST : goal.returns-then-out-lt-MOST
-returns-then-out-lt-MOST c = let a = c.args in no_room a.request.now a.out.now (omega arith)
+-- the numbers that were read
+abbrev asked : After-check → Request
+asked c = record { shades = c.from-k.result; marks = c.from-n.result; place = c.get64-place.result; width = c.get64-width.result; height = c.get64-height.result }
 
-pub returns-then-request-ne-REQUEST : goal.returns-then-request-ne-REQUEST
-returns-then-request-ne-REQUEST c = let a = c.args in other_size a.request.now a.out.now c.if-request-ne-REQUEST.true
-
--- the request is read, and is not refused: what is known of it
-known : (c : In-Strip) → let s = c.args.request.now in Passed (get_or s 0 0) (get_or s 1 0) c.get64-place.result c.get64-width.result c.get64-height.result c.in-Strip.strip
-known c =
-    let s = c.args.request.now in
-    checked (get_or s 0 0) (get_or s 1 0) c.get64-place.result c.get64-width.result c.get64-height.result c.in-Strip.ensures refl
-
-room : (c : In-Strip) → length (head_text c.get64-width.result c.get64-height.result) + row_size c.get64-width.result ≤ parts_room
-room c =
-    let d = (known c).drawn in
-    omega (arith, head_most c.get64-width.result c.get64-height.result d.frame.wide d.frame.high, d.frame.wide)
+is : (c : After-check) → asked c ≡ request c.args.request.now
+is c = cc
 
 pub begin-requires : goal.begin-requires
-begin-requires c =
-    let at = goal.at.begin-requires c in
-    let holds : parts_room ≤ length c.args.out.now = omega arith in
-    ((known at.In-Strip).drawn, omega (arith, room at.In-Strip, holds))
+begin-requires c = search (rules, head_most)
 
-pub returns-in-Refused : goal.returns-in-Refused
-returns-in-Refused c =
-    let s = c.args.request.now in
-    let (is, some) =
-    refused_by (picture_fault (get_or s 0 0) (get_or s 1 0) c.get64-place.result c.get64-width.result c.get64-height.result) (get_or s 0 0) (get_or s 1 0) c.in-Refused.ensures refl in
-    refused s c.args.out.now c.get64-place.ensures c.get64-width.ensures c.get64-height.ensures is some
+pub returns-in_default : goal.returns-in_default
+returns-in_default c =
+    let at = (goal.at.returns-in_default c).After-check in
+    refused c.args.request.now c.args.out.now (asked at) (is at) (λ z. code_some c.in_default.field-0 (c.in_default.ensures ∙ z))
 
-pub returns-in-Strip : goal.returns-in-Strip
-returns-in-Strip c =
-    let at = (goal.at.returns-in-Strip c).In-Strip in
-    let holds : parts_room ≤ length c.args.out.now = omega arith in
-    parted c.args.request.now c.args.out.now c.get64-place.ensures c.get64-width.ensures c.get64-height.ensures holds (omega arith) (known at).fine (known at).on c.begin.ensures
+pub returns : goal.returns
+returns c =
+    let at = (goal.at.returns c).After-check in
+    parted c.args.request.now c.args.out.now (asked at) (is at) (omega arith) (omega arith) c.in-Ok.ensures.0 (rw (c.in-Ok.ensures.1.0, c.in-Ok.ensures.1.1) at c.begin.ensures)
