@@ -47,7 +47,7 @@ module _ (n p c h : ℕ) (a : admitted 2 n ≡ true) (l : p < 2 ^ n) (frame : Fr
       → (number_of r ≡ 0) × (value_of r ≡ file_size c h) × (q ≡ 0)
       × (read_picture (take (value_of r) t') ≡ record { plain = true; width = c; height = h; marks = repeated h (take c u') })
   picture-back t t' u u' r q x y e f =
-      let (number, value, is) = beside_fine (picture_fault 2 n p c h) (length file) file t fine (omega (arith, size)) e in
+      let (number, value, is) = beside_fine (picture_fault 2 n p c h) (length file) file t r fine (omega (arith, size)) e in
       let (done, marks, _) = printed Divisors 2 n p c u u' q a l y f in
       let whole : take (value_of r) t' ≡ file = ap₂ take value is ∙ take_at file _ (length file) refl in
       let read = ap read_picture whole ∙ back 2 n p c h (omega arith) (omega arith) (admitted_range 2 n a).1 in

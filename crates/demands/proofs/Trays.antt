@@ -70,9 +70,9 @@ pub no_value : (f v : ℕ) (r : Result ℕ Refusal) → ValueIs f v r → number
 no_value f v r e h = let t = value_told f v r e in t.1 ∙ ap (λ x. pick x v 0) (ne_eqb f 0 (λ z. h (t.0 ∙ z)))
 
 -- bytes in a tray and a value beside them
-pub beside_fine : (f v : ℕ) (b t : List ℕ) {t' : List ℕ} {r : Result ℕ Refusal} → f ≡ 0 → length b ≤ length t → IntoValue f v (pick (eqb f 0) b []) t t' r
+pub beside_fine : (f v : ℕ) (b t : List ℕ) {t' : List ℕ} (r : Result ℕ Refusal) → f ≡ 0 → length b ≤ length t → IntoValue f v (pick (eqb f 0) b []) t t' r
     → (number_of r ≡ 0) × (value_of r ≡ v) × (t' ≡ over b t)
-beside_fine f v b t h l e =
+beside_fine f v b t r h l e =
     let (number, is) = into_fine f b t h l e.0 in
     let value = (rw number at e).1 in
     (number, value, is)

@@ -73,7 +73,7 @@ module _ (k n : ℕ) (w : List ℕ) (a : admitted k n ≡ true) (e : length w �
   pub rotation : (t t' : List ℕ) (r : Result ℕ Refusal) → n ≤ length t → RotationSays k n w t t' r
       → (number_of r ≡ 0) × (t' ≡ over (turned (value_of r) w) t) × TurnTold w (value_of r)
   rotation t t' r x f =
-      let (number, value, is) = beside_fine (the_word_fault k n w) (least_turn w) (smallest w) t fine (omega (arith, smallest-length w)) f in
+      let (number, value, is) = beside_fine (the_word_fault k n w) (least_turn w) (smallest w) t r fine (omega (arith, smallest-length w)) f in
       let by : smallest w ≡ turned (value_of r) w = sym (ap (λ i. turned i w) value ∙ word_laws.turns.reaches w) in
       (number, is ∙ ap (λ u. over u t) by, subst (TurnTold w) (sym value) told_turn)
 
