@@ -14,5 +14,5 @@ pub fn put_refused(number: u8, out: &mut [u8]) -> usize
     ensures { Adds out.old 0 (refused_line number) out.new result }
 {
     let end = texts::put_bytes(b"refused ", out, 0);
-    texts::put_number(number as u64, b'\n', out, end)
+    texts::put_number(u64::from(number), b'\n', out, end)
 }
