@@ -2,40 +2,35 @@
 // The gate compares this with the model; bench/run times it.
 #![tactic(auto)]
 
-ghost use Rattle.std.specs.Prelude.{◌<◌};
+use calls::Refusal;
+
+const STDOUT: i32 = 1;
 
 const STEPS: u64 = 1000000;
 
-// A byte as a number; that it is below 256 keeps the sum small.
-fn wide(x: u8) -> u64
-    ensures { result < 256 }
-{
-    x as u64
-}
+// The strips of tests/strides.py, in their order: k and n.
+const STRIPS: [(u64, u64); 3] = [(2, 60), (4, 30), (36, 11)];
 
-// A strip walked from its start.
-fn stride(k: u64, n: u64) {
-    let started = cursors::start_cursor(k, n, 0);
-    let mut at = started.cursor;
+// The sum and the xor of a strip walked from its start.
+fn stride(k: u64, n: u64) -> Result<(u64, u64), Refusal> {
+    let mut at = cursors::start_cursor(k, n, 0)?;
     let mut sum = 0;
     let mut mix = 0;
-    let mut i = 0;
-    while i < STEPS {
-        let stepped = at.step();
+    for _ in 0..STEPS {
+        let stepped = at.step()?;
         at = stepped.cursor;
-        sum += wide(stepped.mark);
+        sum += u64::from(stepped.mark);
         mix ^= stepped.passed;
-        i += 1;
     }
-    io::print_decimal(1, sum);
-    io::write_all(1, b" ");
-    io::print_decimal(1, mix);
-    io::write_all(1, b"\n");
+    Ok((sum, mix))
 }
 
-// The strips of tests/strides.py, in their order.
 fn main() {
-    stride(2, 60);
-    stride(4, 30);
-    stride(36, 11);
+    for (k, n) in STRIPS {
+        let (sum, mix) = stride(k, n).unwrap_or((0, 0));
+        io::print_decimal(STDOUT, sum);
+        io::write_all(STDOUT, b" ");
+        io::print_decimal(STDOUT, mix);
+        io::write_all(STDOUT, b"\n");
+    }
 }
