@@ -25,7 +25,6 @@ pub record Started (n : ℕ) (t : List ℕ) : Type 0 where
 
 -- the entry of length l and state s is the number of words of length l that lead from state s home; any numbers in the other cells
 pub record Filled (k : ℕ) (w t : List ℕ) : Type 0 where
-  pub size : length t ≡ cells
   pub entry : (s l : ℕ) → s + l ≤ length w → get_or t (l * 61 + s) 0 ≡ returning k w s l
 
 -- the entries of states below q on the antidiagonal of d

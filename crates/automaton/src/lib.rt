@@ -6,7 +6,7 @@ ghost use Rattle.std.specs.Prelude.{◌≡◌, ◌^◌, ◌≤◌, ◌<◌, leng
 ghost use Rattle.theory.specs.Sums.{cs};
 ghost use Rattle.theory.specs.Lists.{Scratch};
 ghost use Rattle.theory.specs.Prenecklaces.{Prenecklace};
-ghost use Rattle.automaton.specs.Tables.{cells, Counted, Started, Filled, diagonal_of, Sized};
+ghost use Rattle.automaton.specs.Tables.{Counted, Started, Filled, diagonal_of, Sized};
 
 // States 0 to 60 and lengths 0 to 60: entry `l * SIDE + s` is for length l and state s.
 const SIDE: usize = 61;
@@ -14,9 +14,12 @@ const SIDE: usize = 61;
 // The cells of a table.
 pub const CELLS: usize = SIDE * SIDE;
 
+// A table of path counts.
+pub type Table = [u64; CELLS];
+
 // Length 0: of the states up to n only state 0 is home.
-fn start(t: &mut [u64], n: usize)
-    requires { (length t.old ≡ cells) × (n ≤ 60) }
+fn start(t: &mut Table, n: usize)
+    requires { n ≤ 60 }
     ensures { Started n t.new }
 {
     t[..=n].fill(0);
@@ -24,8 +27,8 @@ fn start(t: &mut [u64], n: usize)
 }
 
 // One table for all prefixes of w: by the letter read, a path goes on to the next state or goes home.
-fn fill(k: u64, w: &[u8], t: &mut [u64])
-    requires { Counted k w.now × (length t.old ≡ cells) }
+fn fill(k: u64, w: &[u8], t: &mut Table)
+    requires { Counted k w.now }
     ensures { Filled k w.now t.new }
 {
     let n = w.len();
@@ -40,8 +43,8 @@ fn fill(k: u64, w: &[u8], t: &mut [u64])
 }
 
 // The sum of an antidiagonal.
-fn diagonal(t: &[u64], d: usize) -> u64
-    requires { (length t.now ≡ cells) × (d ≤ 60) × (diagonal_of t.now d d < 2 ^ 64) }
+fn diagonal(t: &Table, d: usize) -> u64
+    requires { (d ≤ 60) × (diagonal_of t.now d d < 2 ^ 64) }
     ensures { result ≡ diagonal_of t.now d d }
 {
     let mut sum = 0;
@@ -52,8 +55,8 @@ fn diagonal(t: &[u64], d: usize) -> u64
 }
 
 // The size of CS(w). `top` is k^n.
-pub fn whole(k: u64, w: &[u8], top: u64, t: &mut [u64]) -> u64
-    requires { Counted k w.now × Prenecklace w.now × (top ≡ k ^ length w.now) × (length t.old ≡ cells) }
+pub fn whole(k: u64, w: &[u8], top: u64, t: &mut Table) -> u64
+    requires { Counted k w.now × Prenecklace w.now × (top ≡ k ^ length w.now) }
     ensures { (result ≡ cs k w.now) × Scratch t.old t.new }
 {
     fill(k, w, t);
@@ -61,8 +64,8 @@ pub fn whole(k: u64, w: &[u8], top: u64, t: &mut [u64]) -> u64
 }
 
 // The sizes of CS of the first d letters, for every divisor d of the length, from one table.
-pub fn sizes(k: u64, w: &[u8], t: &mut [u64]) -> [u64; 61]
-    requires { Counted k w.now × Prenecklace w.now × (length t.old ≡ cells) }
+pub fn sizes(k: u64, w: &[u8], t: &mut Table) -> [u64; 61]
+    requires { Counted k w.now × Prenecklace w.now }
     ensures { Sized k w.now result × Scratch t.old t.new }
 {
     fill(k, w, t);

@@ -1,15 +1,16 @@
 // Ranks of words, the sizes of CS behind them, and the number of Lyndon words.
 #![tactic(auto)]
 
-ghost use Rattle.std.specs.Prelude.{◌≡◌, ◌*◌, pos, length};
+ghost use Rattle.std.specs.Prelude.{◌≡◌, ◌*◌, pos};
 ghost use Rattle.theory.specs.Words.{rank, how_many};
 ghost use Rattle.theory.specs.Floors.{necklace_up_to};
 ghost use Rattle.theory.specs.Lists.{Scratch};
 ghost use Rattle.theory.specs.Prenecklaces.{Prenecklace};
-ghost use Rattle.automaton.specs.Tables.{cells, Sized};
+ghost use Rattle.automaton.specs.Tables.{Sized};
 ghost use Rattle.moebius.specs.Summands.{Summable, Whole, total};
 ghost use Rattle.shape.specs.Shapes.{WordOn};
 
+use automaton::Table;
 use shape::Strip;
 
 // The sum over all divisors of n, divided by n. It is n times a number, so nothing is left.
@@ -23,8 +24,8 @@ fn quotient(s: Strip, sizes: &[u64]) -> u64
 }
 
 // The rank of a prenecklace: document 004's sum, by one table, which is lent as scratch.
-pub fn of_prenecklace(s: Strip, w: &[u8], t: &mut [u64]) -> u64
-    requires { WordOn s w.now × Prenecklace w.now × (length t.old ≡ cells) }
+pub fn of_prenecklace(s: Strip, w: &[u8], t: &mut Table) -> u64
+    requires { WordOn s w.now × Prenecklace w.now }
     ensures { (result ≡ rank s.k w.now) × Scratch t.old t.new }
 {
     let sizes = automaton::sizes(s.k, w, t);

@@ -4,10 +4,10 @@
 ghost use Rattle.std.specs.Prelude.{◌≡◌, ◌≤◌, ◌<◌, length};
 ghost use Rattle.theory.specs.Words.{up_to};
 ghost use Rattle.theory.specs.Prenecklaces.{Prenecklace};
-ghost use Rattle.automaton.specs.Tables.{cells};
 ghost use Rattle.shape.specs.Shapes.{WordOn};
 ghost use Rattle.search.specs.Goals.{Within, goal_word, Searching, Found, letter_back, period_with};
 
+use automaton::Table;
 use shape::Strip;
 
 // What is searched for: the Lyndon word of an index, or the necklace that holds a position.
@@ -18,8 +18,8 @@ pub enum Goal {
 }
 
 // Is w at or past the word searched for? By one table, as scratch.
-fn reaches(s: Strip, goal: Goal, w: &[u8], t: &mut [u64]) -> bool
-    requires { WordOn s w.now × Prenecklace w.now × Within s goal × (length t.old ≡ cells) }
+fn reaches(s: Strip, goal: Goal, w: &[u8], t: &mut Table) -> bool
+    requires { WordOn s w.now × Prenecklace w.now × Within s goal }
     ensures { result ≡ up_to (goal_word s.k s.n goal) w.now }
 {
     let k = s.k;
@@ -31,8 +31,8 @@ fn reaches(s: Strip, goal: Goal, w: &[u8], t: &mut [u64]) -> bool
 }
 
 // The letter of the word searched for at j, by bisection from the smallest that keeps a prenecklace; it is put in its place.
-fn letter(s: Strip, goal: Goal, w: &mut [u8], j: usize, from: u8, t: &mut [u64]) -> u8
-    requires { Searching s goal w.old j from × (length t.old ≡ cells) }
+fn letter(s: Strip, goal: Goal, w: &mut [u8], j: usize, from: u8, t: &mut Table) -> u8
+    requires { Searching s goal w.old j from }
     ensures { Found s goal w.old w.new j result }
 {
     let mut low = from;

@@ -1,14 +1,12 @@
 -- `access::strip_holder` finds the word of the strip that holds a position.
-use mathlib.Core.Path.{refl, ap₂}
+use mathlib.Core.Path.{ap₂}
 use Prim.Native.Nat.{◌+◌, ◌-◌}
 use native.Mathlib.Omega.{arith}
 use Rattle.access.proofs.Holding.{holder_asks, holder_fits, holder_is}
 use Rattle.access.proofs.strip_holder.Goals as goal
 
 pub whole-end-requires : goal.whole-end-requires
-whole-end-requires c =
-    let (counted, pre, top) = holder_asks c.args.s c.args.p c.requires.0 c.find.ensures in
-    (counted, pre, top, refl)
+whole-end-requires c = holder_asks c.args.s c.args.p c.requires.0 c.find.ensures
 
 pub overflow_add-at : goal.overflow_add-at
 overflow_add-at c =

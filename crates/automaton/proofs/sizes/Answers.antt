@@ -23,7 +23,7 @@ pub overflow_mul-top : goal.overflow_mul-top
 overflow_mul-top c = omega (arith, size (goal.at.overflow_mul-top c).In-loop-d)
 
 pub diagonal-requires : goal.diagonal-requires
-diagonal-requires c = omega (arith, size (goal.at.diagonal-requires c).In-loop-d, c.fill.ensures.size)
+diagonal-requires c = omega (arith, size (goal.at.diagonal-requires c).In-loop-d)
 
 pub overflow_sub-out : goal.overflow_sub-out
 overflow_sub-out c = omega (arith, size (goal.at.overflow_sub-out c).In-loop-d, c.diagonal.ensures)

@@ -13,7 +13,7 @@ size c =
     size-whole c.args.k c.args.w.now c.fill.new.t c.requires.0 c.requires.1 c.fill.ensures c.args.top c.requires.2
 
 pub diagonal-requires : goal.diagonal-requires
-diagonal-requires c = omega (arith, size (goal.at.diagonal-requires c).After-fill, c.fill.ensures.size, c.requires.0.short)
+diagonal-requires c = omega (arith, size (goal.at.diagonal-requires c).After-fill, c.requires.0.short)
 
 pub overflow_sub-result : goal.overflow_sub-result
 overflow_sub-result c = omega (arith, size (goal.at.overflow_sub-result c).After-fill, c.diagonal.ensures)

@@ -1,5 +1,5 @@
 -- `locator::place_of` meets its contract: at the wrap, or at the first fit in the letters from the base word on.
-use mathlib.Core.Path.{refl, sym, ◌∙◌}
+use mathlib.Core.Path.{sym, ◌∙◌}
 use Prim.Native.Nat.{◌-◌}
 use native.Mathlib.Omega.{arith}
 use lib.ListN.{replicate}
@@ -40,9 +40,7 @@ located c =
     c.smallest-turn.ensures.0 (rotated c.requires c.smallest-turn.ensures.1) c.base.ensures
 
 pub whole-end-requires : goal.whole-end-requires
-whole-end-requires c =
-    let (counted, pre, top) = base_counted c.requires (located (goal.at.whole-end-requires c).After-base) in
-    (counted, pre, top, refl)
+whole-end-requires c = base_counted c.requires (located (goal.at.whole-end-requires c).After-base)
 
 -- the word and as many letters as the window has fit the buffer
 pub slice_bounds-letters-end : goal.slice_bounds-letters-end

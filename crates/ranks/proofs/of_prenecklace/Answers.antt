@@ -12,7 +12,7 @@ use Rattle.ranks.proofs.of_prenecklace.Goals.{After-sizes-sizes}
 use Rattle.ranks.proofs.of_prenecklace.Goals as goal
 
 pub sizes-sizes-requires : goal.sizes-sizes-requires
-sizes-sizes-requires c = let p = c.requires in (counted p.0, p.1, p.2)
+sizes-sizes-requires c = (counted c.requires.0, c.requires.1)
 
 -- the sizes are there
 ranked : (c : After-sizes-sizes) → let a = c.args in total a.s.n c.sizes-sizes.result ≡ pos (a.s.n * rank a.s.k a.w.now)

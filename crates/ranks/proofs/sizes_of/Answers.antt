@@ -1,5 +1,5 @@
 -- `ranks::sizes_of`: the word is copied and lowered to the largest necklace not above it, whose sizes of CS one table gives.
-use mathlib.Core.Path.{◌≡◌, refl, sym, ◌∙◌, ap, subst}
+use mathlib.Core.Path.{◌≡◌, sym, ◌∙◌, ap, subst}
 use native.Mathlib.Omega.{arith}
 use mathlib.Core.List.{List}
 use Prim.Native.Nat.{ℕ, ◌≤◌}
@@ -10,7 +10,7 @@ use lib.Seq.{length-take-le}
 use Rattle.theory.specs.Floors.{necklace_up_to}
 use Rattle.theory.specs.Prenecklaces.{Prenecklace}
 use Rattle.shape.proofs.Limits.{limits}
-use Rattle.automaton.specs.Tables.{cells, Counted, Sized}
+use Rattle.automaton.specs.Tables.{Counted, Sized}
 use Rattle.ranks.proofs.Shapes.{counted}
 use Rattle.ranks.proofs.Floored.{copied, lettered, floored}
 use Rattle.ranks.proofs.sizes_of.Goals.{After-copy, After-floor}
@@ -42,7 +42,7 @@ low c = c.floor.ensures ∙ ap (necklace_up_to c.args.s.k) (copied _ (replicate 
 
 pub sizes-requires : goal.sizes-requires
 sizes-requires c =
-    subst (λ v. Counted c.args.s.k v × Prenecklace v × (3721 ≡ cells)) (sym (low (goal.at.sizes-requires c).After-floor)) (let (on, pre) = floored c.requires in (counted on, pre, refl))
+    subst (λ v. Counted c.args.s.k v × Prenecklace v) (sym (low (goal.at.sizes-requires c).After-floor)) (let (on, pre) = floored c.requires in (counted on, pre))
 
 pub returns : goal.returns
 returns c =

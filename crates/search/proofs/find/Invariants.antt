@@ -1,8 +1,6 @@
 -- `search::find` finds the word searched for letter by letter.
-use mathlib.Core.Path.{◌≡◌}
-use lib.ListN.{length}
 use Rattle.search.proofs.Searches.{SearchedTo}
 use Rattle.search.proofs.find.Given as goal
 
 abbrev pub invariant-loop-j : goal.invariant-loop-j
-invariant-loop-j l = SearchedTo l.s l.goal l.out l.j l.period × (length l.t ≡ 3721)
+invariant-loop-j l = SearchedTo l.s l.goal l.out l.j l.period

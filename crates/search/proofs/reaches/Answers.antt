@@ -4,10 +4,10 @@ use Rattle.search.proofs.reaches.Goals as goal
 
 pub returns-in-Index : goal.returns-in-Index
 returns-in-Index c =
-    let (on, _, inside, _) = c.requires in
+    let (on, _, inside) = c.requires in
     index_told c.in-Index.is on inside c.of_prenecklace.ensures.0
 
 pub returns-in-Position : goal.returns-in-Position
 returns-in-Position c =
-    let (on, _, inside, _) = c.requires in
+    let (on, _, inside) = c.requires in
     position_told c.in-Position.is on inside c.whole.ensures.0
