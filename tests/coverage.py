@@ -6,8 +6,8 @@ what a buffer holds at the exit; no clause says nothing; and each buffer that it
 The two functions that stand for the whole library have their record as contract.
 
 An edit bears on a public function if it changes that function, or one of the same crate that it calls, or a constant that they read, or a
-definition in specs/ of a crate whose one function has that definition as its contract. A function of the boundary (strip) is one line that
-calls its family's function of the same name: the edits of that one count for it, and who calls the line calls that one.
+definition in specs/ of a crate whose one function has that definition as its contract. A function of the boundary (strip) is one line, the
+number of what its family's function of the same name answers: the edits of that one count for it, and who calls the line calls that one.
 
 Fails if a public function has no such contract or fewer than two edits, if what an edit replaces does not stand in its file just once, if a
 call of the library is called by no test program, if one that is no call is used by no other crate, or if a function of the boundary is more
@@ -178,7 +178,7 @@ def reached(function, functions):
 
 def forwards(function):
     """The family and the function that a line of the boundary calls, or None."""
-    line = re.fullmatch(r"(\w+)::(\w+)\(([\w, ]*)\)", function.body.strip())
+    line = re.fullmatch(r"calls::number\((\w+)::(\w+)\(([\w, ]*)\)\)", function.body.strip())
     arguments = ", ".join(re.findall(r"(\w+): ", function.parameters))
     return (line[1], line[2]) if line and line[2] == function.name and line[3] == arguments else None
 

@@ -63,7 +63,7 @@ impl Cursor {
 pub extern "C" fn rank_of(k: u64, word: &[u8], tray: &mut [u8]) -> u8
     ensures { RankSays k word.now tray.old tray.new result }
 {
-    words::rank_of(k, word, tray)
+    calls::number(words::rank_of(k, word, tray))
 }
 """,
     "rounds/src": """
@@ -136,7 +136,7 @@ TRICKS = (
     ("an edit of a function that is not called", "buffers/src", "    fill(out);\n", "    other::fill(out);\n", "buffers::put lacks edits"),
     ("one edit", "cursors/edit 2", "old: moved(self, place)", "old: fn moved", "cursors::step lacks edits"),
     ("a boundary that does more", "strip/src",
-     "    words::rank_of(k, word, tray)", "    words::rank_of(k + 1, word, tray)", "strip::rank_of lacks a body that is its family's call alone"),
+     "    calls::number(words::rank_of(k, word, tray))", "    calls::number(words::rank_of(k + 1, word, tray))", "strip::rank_of lacks a body that is its family's call alone"),
     ("a head that is not read", "words/src", "pub fn rank_of", "pub const fn rank_of", "coverage: words has a function that this test does not read"),
 )
 

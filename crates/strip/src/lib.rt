@@ -14,7 +14,7 @@ ghost use Rattle.pictures.specs.Says.{BothSay};
 pub extern "C" fn turn_of(k: u64, n: u64, word: &[u8], tray: &mut [u8]) -> u8
     ensures { TurnSays k n word.now tray.old tray.new result }
 {
-    words::turn_of(k, n, word, tray)
+    calls::number(words::turn_of(k, n, word, tray))
 }
 
 // The rank of a word, as 8 bytes.
@@ -22,7 +22,7 @@ pub extern "C" fn turn_of(k: u64, n: u64, word: &[u8], tray: &mut [u8]) -> u8
 pub extern "C" fn rank_of(k: u64, n: u64, word: &[u8], tray: &mut [u8]) -> u8
     ensures { RankSays k n word.now tray.old tray.new result }
 {
-    ranking::rank_of(k, n, word, tray)
+    calls::number(ranking::rank_of(k, n, word, tray))
 }
 
 // The Lyndon word of an index, in the tray's first n bytes.
@@ -30,7 +30,7 @@ pub extern "C" fn rank_of(k: u64, n: u64, word: &[u8], tray: &mut [u8]) -> u8
 pub extern "C" fn word_of(k: u64, n: u64, index: u64, tray: &mut [u8]) -> u8
     ensures { WordSays k n index tray.old tray.new result }
 {
-    ranking::word_of(k, n, index, tray)
+    calls::number(ranking::word_of(k, n, index, tray))
 }
 
 // The mark at a place, as 8 bytes.
@@ -38,7 +38,7 @@ pub extern "C" fn word_of(k: u64, n: u64, index: u64, tray: &mut [u8]) -> u8
 pub extern "C" fn mark_at(k: u64, n: u64, place: u64, tray: &mut [u8]) -> u8
     ensures { MarkSays k n place tray.old tray.new result }
 {
-    marks::mark_at(k, n, place, tray)
+    calls::number(marks::mark_at(k, n, place, tray))
 }
 
 // The place of a window, as 8 bytes.
@@ -46,7 +46,7 @@ pub extern "C" fn mark_at(k: u64, n: u64, place: u64, tray: &mut [u8]) -> u8
 pub extern "C" fn place_of(k: u64, n: u64, window: &[u8], tray: &mut [u8]) -> u8
     ensures { PlaceSays k n window.now tray.old tray.new result }
 {
-    marks::place_of(k, n, window, tray)
+    calls::number(marks::place_of(k, n, window, tray))
 }
 
 // The marks from a place on, as many as are asked for, in the tray's first bytes.
@@ -54,7 +54,7 @@ pub extern "C" fn place_of(k: u64, n: u64, window: &[u8], tray: &mut [u8]) -> u8
 pub extern "C" fn print_marks(k: u64, n: u64, place: u64, marks: u64, tray: &mut [u8]) -> u8
     ensures { PrintSays k n place marks tray.old tray.new result }
 {
-    marks::print_marks(k, n, place, marks, tray)
+    calls::number(marks::print_marks(k, n, place, marks, tray))
 }
 
 // The mark at a place of the short ring, as 8 bytes.
@@ -62,7 +62,7 @@ pub extern "C" fn print_marks(k: u64, n: u64, place: u64, marks: u64, tray: &mut
 pub extern "C" fn short_mark_at(k: u64, n: u64, place: u64, tray: &mut [u8]) -> u8
     ensures { ShortMarkSays k n place tray.old tray.new result }
 {
-    marks::short_mark_at(k, n, place, tray)
+    calls::number(marks::short_mark_at(k, n, place, tray))
 }
 
 // The place of a window on the short ring, as 8 bytes.
@@ -70,7 +70,7 @@ pub extern "C" fn short_mark_at(k: u64, n: u64, place: u64, tray: &mut [u8]) -> 
 pub extern "C" fn short_place_of(k: u64, n: u64, window: &[u8], tray: &mut [u8]) -> u8
     ensures { ShortPlaceSays k n window.now tray.old tray.new result }
 {
-    marks::short_place_of(k, n, window, tray)
+    calls::number(marks::short_place_of(k, n, window, tray))
 }
 
 // The marks of the short ring from a place on, as many as are asked for, in the tray's first bytes.
@@ -78,7 +78,7 @@ pub extern "C" fn short_place_of(k: u64, n: u64, window: &[u8], tray: &mut [u8])
 pub extern "C" fn short_print_marks(k: u64, n: u64, place: u64, marks: u64, tray: &mut [u8]) -> u8
     ensures { ShortPrintSays k n place marks tray.old tray.new result }
 {
-    marks::short_print_marks(k, n, place, marks, tray)
+    calls::number(marks::short_print_marks(k, n, place, marks, tray))
 }
 
 // The section that a window is read in, in 2 bytes, its distance from the section's start, in 8, and the section's rail, in 2.
@@ -86,7 +86,7 @@ pub extern "C" fn short_print_marks(k: u64, n: u64, place: u64, marks: u64, tray
 pub extern "C" fn look_up(plan: &[u8], window: &[u8], tray: &mut [u8]) -> u8
     ensures { LookupSays plan.now window.now tray.old tray.new result }
 {
-    lookups::look_up(plan, window, tray)
+    calls::number(lookups::look_up(plan, window, tray))
 }
 
 // The same of a window in which up to two marks were not read, byte 255: of the laid window of the lowest place that agrees at all the others.
@@ -94,7 +94,7 @@ pub extern "C" fn look_up(plan: &[u8], window: &[u8], tray: &mut [u8]) -> u8
 pub extern "C" fn look_up_smudged(plan: &[u8], window: &[u8], tray: &mut [u8]) -> u8
     ensures { SmudgedSays plan.now window.now tray.old tray.new result }
 {
-    lookups::look_up_smudged(plan, window, tray)
+    calls::number(lookups::look_up_smudged(plan, window, tray))
 }
 
 // The changes of one mark of a laid window that give a laid window, as entries of 10 bytes in the tray's first bytes; how many there are, as 8 bytes in a
@@ -108,7 +108,7 @@ pub extern "C" fn misreadings_of(
 ) -> u8
     ensures { MisreadingListSays plan.now window.now count.old count.new tray.old tray.new result }
 {
-    misreadings::misreadings_of(plan, window, count, tray)
+    calls::number(misreadings::misreadings_of(plan, window, count, tray))
 }
 
 // What a plan costs in cents at a price for a mark, in thousandths of a cent, and a charge for a section, in cents; as 8 bytes.
@@ -116,7 +116,7 @@ pub extern "C" fn misreadings_of(
 pub extern "C" fn bill_of(plan: &[u8], price: u64, charge: u64, tray: &mut [u8]) -> u8
     ensures { BillOfSays plan.now price charge tray.old tray.new result }
 {
-    bills::bill_of(plan, price, charge, tray)
+    calls::number(bills::bill_of(plan, price, charge, tray))
 }
 
 // A picture of the marks from a place on, as a plain PBM file in the tray's first bytes; its size, as 8 bytes in a tray of its own.
@@ -132,5 +132,5 @@ pub extern "C" fn picture_of(
 ) -> u8
     ensures { BothSay k n place width height size.old size.new tray.old tray.new result }
 {
-    pictures::picture_of(k, n, place, width, height, size, tray)
+    calls::number(pictures::picture_of(k, n, place, width, height, size, tray))
 }
