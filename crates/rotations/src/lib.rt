@@ -12,6 +12,7 @@ fn turn_below(w: &[u8], i: usize, b: usize) -> bool
     ensures { result ≡ below (turned i w.now) (turned b w.now) }
 {
     let n = w.len();
+    // kept: the two rotations as chained iterators, compared by `lt`, took twice as long
     let mut x = i;
     let mut y = b;
     for _ in 0..n {
