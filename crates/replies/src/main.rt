@@ -13,29 +13,14 @@
 // tests/replies.py makes asks, and the lines that must come.
 #![tactic(auto)]
 
-ghost use Rattle.std.specs.Prelude.{◌+◌, ◌≤◌, ◌<◌, length};
+ghost use Rattle.std.specs.Prelude.{◌≤◌, ◌<◌, length, IfSome};
 
-use calls::Value;
-use cursors::{Cursor, Started, Stepped};
+use calls::Refusal;
+use cursors::{Cursor, Stepped};
 
-// Bytes of an ask before what is asked, before its word, before its window and before its plan that is billed; of a start, of a picture, of a cursor, and of a cursor's word.
-const HEAD: usize = 3;
+const STDOUT: i32 = 1;
 
-const BEFORE_WORD: usize = 17;
-
-const BEFORE_WINDOW: usize = 3;
-
-const BEFORE_BILLED: usize = 16;
-
-const START_BYTES: usize = 24;
-
-const PICTURE_BYTES: usize = 42;
-
-const CURSOR_BYTES: usize = 64;
-
-const HELD_BYTES: usize = 60;
-
-// Bytes of the tray, of which the first are lent: more than a word of a strip has.
+// Bytes of the tray for a word, of which the first are lent: more than a word of a strip has.
 const TRAY_BYTES: usize = 64;
 
 // Bytes of the tray for a picture, or a list: some of them fit.
@@ -43,42 +28,41 @@ const PAPER_BYTES: usize = 512;
 
 // A number, one more in its line.
 fn field(v: u64) {
-    io::write_all(1, b" ");
-    io::print_decimal(1, v);
+    io::write_all(STDOUT, b" ");
+    io::print_decimal(STDOUT, v);
 }
 
 // A byte, one more in its line.
 fn byte(x: u8) {
-    field(x as u64);
+    field(u64::from(x));
 }
 
 // The end of a line.
 fn end() {
-    io::write_all(1, b"\n");
+    io::write_all(STDOUT, b"\n");
 }
 
 // Bytes, one after the other.
 fn bytes(given: &[u8]) {
-    let mut i = 0;
-    while i < given.len() {
-        byte(given[i]);
-        i += 1;
+    for &x in given {
+        byte(x);
     }
 }
 
-// The line of a call that answers a value.
-fn valued(call: &[u8], answer: Value) {
-    io::write_all(1, call);
-    byte(answer.number);
-    field(answer.value);
-    end();
+// The number of an answer, and what it holds, or what stands for that if it is refused.
+fn parts<T: Drop>(answer: Result<T, Refusal>, refused: T) -> (u8, T) {
+    match answer {
+        Ok(held) => (0, held),
+        Err(refusal) => (u8::from(refusal), refused),
+    }
 }
 
-// The line of a call that answers a value beside a tray: the whole tray, of which the first bytes were lent, stands behind.
-fn beside(call: &[u8], answer: Value, tray: &[u8]) {
-    io::write_all(1, call);
-    byte(answer.number);
-    field(answer.value);
+// The line of a call that answers a value: the whole tray, of which the first bytes were lent, stands behind. A call without a tray has an empty one.
+fn valued(call: &[u8], answer: Result<u64, Refusal>, tray: &[u8]) {
+    let (number, value) = parts(answer, 0);
+    io::write_all(STDOUT, call);
+    byte(number);
+    field(value);
     bytes(tray);
     end();
 }
@@ -87,213 +71,148 @@ fn beside(call: &[u8], answer: Value, tray: &[u8]) {
 fn placed(c: Cursor) {
     byte(c.k);
     byte(c.n);
-    let word = c.word;
-    bytes(&word);
+    bytes(&c.word);
     byte(c.long);
     byte(c.place);
     end();
 }
 
 // The line of a start.
-fn started(call: &[u8], answer: Started) {
-    io::write_all(1, call);
-    byte(answer.number);
-    let cursor = answer.cursor;
+fn started(call: &[u8], answer: Result<Cursor, Refusal>) {
+    let (number, cursor) = parts(answer, Cursor::NOWHERE);
+    io::write_all(STDOUT, call);
+    byte(number);
     placed(cursor);
 }
 
-// The line of a step.
-fn stepped(call: &[u8], answer: Stepped) {
-    io::write_all(1, call);
-    byte(answer.number);
-    byte(answer.mark);
-    field(answer.passed);
-    let moved = answer.cursor;
-    placed(moved);
+// The line of a step of a cursor. A refused one leaves it as it is.
+fn stepped(call: &[u8], c: Cursor, answer: Result<Stepped, Refusal>) {
+    let unmoved = Stepped {
+        mark: 0,
+        passed: 0,
+        cursor: c,
+    };
+    let (number, step) = parts(answer, unmoved);
+    io::write_all(STDOUT, call);
+    byte(number);
+    byte(step.mark);
+    field(step.passed);
+    placed(step.cursor);
 }
 
-// A byte as a number.
-fn wide(x: u8) -> u64
-    ensures { result < 256 }
+// The number in the first 2 bytes, and what stands behind them.
+fn size(given: &[u8]) -> Option<(usize, &[u8])>
+    ensures { IfSome result (λ p. length p.1.now ≤ length given.now) }
 {
-    x as u64
+    let (first, behind) = given.split_first_chunk()?;
+    Some((usize::from(u16::from_be_bytes(*first)), behind))
 }
 
-// The number in 2 bytes.
-fn size(given: &[u8], at: usize) -> usize
-    requires { at + 2 ≤ length given.now }
-    ensures { result < 65536 }
-{
-    (wide(given[at]) * 256 + wide(given[at + 1])) as usize
+// The number in the first 8 bytes, and what stands behind them.
+fn number(given: &[u8]) -> Option<(u64, &[u8])> {
+    let (first, behind) = given.split_first_chunk()?;
+    Some((u64::from_be_bytes(*first), behind))
 }
 
-// The number in 4 bytes.
-fn half(given: &[u8], at: usize) -> u64
-    requires { at + 4 ≤ length given.now }
-    ensures { result < 4294967296 }
-{
-    wide(given[at]) * 16777216
-        + wide(given[at + 1]) * 65536
-        + wide(given[at + 2]) * 256
-        + wide(given[at + 3])
-}
-
-// The number in 8 bytes.
-fn number(given: &[u8], at: usize) -> u64
-    requires { at + 8 ≤ length given.now }
-{
-    half(given, at) * 4294967296 + half(given, at + 4)
-}
-
-// smallest_rotation, in the tray's first bytes.
-fn rotated(k: u64, n: u64, word: &[u8], lent: usize, tray: &mut [u8])
-    requires { lent ≤ length tray.old }
-{
-    let answer = words::smallest_rotation(k, n, word, &mut tray[..lent]);
-    beside(b"smallest_rotation", answer, tray);
-}
-
-// The calls on a word, in a tray of 170s.
-fn word(k: u64, n: u64, word: &[u8], lent: usize)
-    requires { lent ≤ 64 }
-{
-    valued(b"is_lyndon", words::is_lyndon(k, n, word));
-    valued(b"shortest_root", words::shortest_root(k, n, word));
+// An ask for a word, in a tray of 170s. This one and the others answer None if the ask is cut, or more is to be lent than there is.
+fn word_asked(ask: &[u8]) -> Option<()> {
+    let (k, ask) = number(ask)?;
+    let (n, ask) = number(ask)?;
+    let (&lent, word) = ask.split_first()?;
     let mut tray = [170u8; TRAY_BYTES];
-    rotated(k, n, word, lent, &mut tray);
-    valued(b"lyndon_count", ranking::lyndon_count(k, n));
-}
-
-// An ask for a word.
-fn word_asked(ask: &[u8]) {
-    if ask.len() < BEFORE_WORD {
-        return;
-    }
-    let lent = wide(ask[16]) as usize;
-    if lent <= TRAY_BYTES {
-        word(number(ask, 0), number(ask, 8), &ask[BEFORE_WORD..], lent);
-    }
-}
-
-// print_picture, in the tray's first bytes.
-fn drawn(ask: &[u8], lent: usize, tray: &mut [u8])
-    requires { (40 ≤ length ask.now) × (lent ≤ length tray.old) }
-{
-    let k = number(ask, 0);
-    let n = number(ask, 8);
-    let place = number(ask, 16);
-    let width = number(ask, 24);
-    let height = number(ask, 32);
-    let answer = pictures::print_picture(k, n, place, width, height, &mut tray[..lent]);
-    beside(b"print_picture", answer, tray);
+    let lent = tray.get_mut(..usize::from(lent))?;
+    let rotation = words::smallest_rotation(k, n, word, lent);
+    valued(b"is_lyndon", words::is_lyndon(k, n, word), &[]);
+    valued(b"shortest_root", words::shortest_root(k, n, word), &[]);
+    valued(b"smallest_rotation", rotation, &tray);
+    valued(b"lyndon_count", ranking::lyndon_count(k, n), &[]);
+    Some(())
 }
 
 // An ask for a picture, in a tray of 170s.
-fn picture_asked(ask: &[u8]) {
-    if ask.len() < PICTURE_BYTES {
-        return;
-    }
-    let lent = size(ask, 40);
-    if lent <= PAPER_BYTES {
-        let mut tray = [170u8; PAPER_BYTES];
-        drawn(ask, lent, &mut tray);
-    }
+fn picture_asked(ask: &[u8]) -> Option<()> {
+    let (k, ask) = number(ask)?;
+    let (n, ask) = number(ask)?;
+    let (place, ask) = number(ask)?;
+    let (width, ask) = number(ask)?;
+    let (height, ask) = number(ask)?;
+    let (lent, _) = size(ask)?;
+    let mut tray = [170u8; PAPER_BYTES];
+    let lent = tray.get_mut(..lent)?;
+    let answer = pictures::print_picture(k, n, place, width, height, lent);
+    valued(b"print_picture", answer, &tray);
+    Some(())
 }
 
 // An ask for a plan.
-fn plan_asked(ask: &[u8]) {
-    io::write_all(1, b"check_plan");
-    byte(lookups::check_plan(ask));
+fn plan_asked(ask: &[u8]) -> Option<()> {
+    io::write_all(STDOUT, b"check_plan");
+    byte(calls::number(lookups::check_plan(ask)));
     end();
-}
-
-// misreadings, in the tray's first bytes.
-fn misread(plan: &[u8], window: &[u8], lent: usize, tray: &mut [u8])
-    requires { lent ≤ length tray.old }
-{
-    let answer = misreadings::misreadings(plan, window, &mut tray[..lent]);
-    beside(b"misreadings", answer, tray);
+    Some(())
 }
 
 // An ask for what may be misread, in a tray of 170s.
-fn misread_asked(ask: &[u8]) {
-    if ask.len() < BEFORE_WINDOW {
-        return;
-    }
-    let lent = size(ask, 0);
-    let end = BEFORE_WINDOW + wide(ask[2]) as usize;
-    if ask.len() < end {
-        return;
-    }
-    if lent <= PAPER_BYTES {
-        let mut tray = [170u8; PAPER_BYTES];
-        misread(&ask[end..], &ask[BEFORE_WINDOW..end], lent, &mut tray);
-    }
+fn misread_asked(ask: &[u8]) -> Option<()> {
+    let (lent, ask) = size(ask)?;
+    let (&long, ask) = ask.split_first()?;
+    let (window, plan) = ask.split_at_checked(usize::from(long))?;
+    let mut tray = [170u8; PAPER_BYTES];
+    let lent = tray.get_mut(..lent)?;
+    let answer = misreadings::misreadings(plan, window, lent);
+    valued(b"misreadings", answer, &tray);
+    Some(())
 }
 
 // An ask for a bill.
-fn bill_asked(ask: &[u8]) {
-    if ask.len() < BEFORE_BILLED {
-        return;
-    }
-    valued(
-        b"bill",
-        bills::bill(&ask[BEFORE_BILLED..], number(ask, 0), number(ask, 8)),
-    );
+fn bill_asked(ask: &[u8]) -> Option<()> {
+    let (price, ask) = number(ask)?;
+    let (charge, plan) = number(ask)?;
+    valued(b"bill", bills::bill(plan, price, charge), &[]);
+    Some(())
 }
 
 // An ask for a start.
-fn start_asked(ask: &[u8]) {
-    if ask.len() < START_BYTES {
-        return;
-    }
-    let k = number(ask, 0);
-    let n = number(ask, 8);
-    let place = number(ask, 16);
+fn start_asked(ask: &[u8]) -> Option<()> {
+    let (k, ask) = number(ask)?;
+    let (n, ask) = number(ask)?;
+    let (place, _) = number(ask)?;
     started(b"start_cursor", cursors::start_cursor(k, n, place));
     started(
         b"short_start_cursor",
         cursors::short_start_cursor(k, n, place),
     );
-}
-
-// The bytes of a cursor's word.
-fn held(ask: &[u8]) -> [u8; HELD_BYTES]
-    requires { 64 ≤ length ask.now }
-{
-    let mut word = [0u8; HELD_BYTES];
-    let mut i = 0;
-    while i < HELD_BYTES {
-        word[i] = ask[2 + i];
-        i += 1;
-    }
-    word
+    Some(())
 }
 
 // An ask for a cursor, whatever its fields hold.
-fn cursor_asked(ask: &[u8]) {
-    if ask.len() < CURSOR_BYTES {
-        return;
-    }
-    let word = held(ask);
+fn cursor_asked(ask: &[u8]) -> Option<()> {
+    let (&[k, n], ask) = ask.split_first_chunk::<2>()?;
+    let (&word, ask) = ask.split_first_chunk()?;
+    let (&[long, place], _) = ask.split_first_chunk::<2>()?;
     let cursor = Cursor {
-        k: ask[0],
-        n: ask[1],
+        k,
+        n,
         word,
-        long: ask[62],
-        place: ask[63],
+        long,
+        place,
     };
-    valued(b"cursor_place", cursors::cursor_place(cursor));
-    stepped(b"step", cursor.step());
-    stepped(b"step_cursor", cursors::step_cursor(cursor));
-    stepped(b"step_back", cursor.step_back());
-    valued(b"short_cursor_place", cursors::short_cursor_place(cursor));
-    stepped(b"short_step", cursor.short_step());
-    stepped(b"short_step_back", cursor.short_step_back());
+    valued(b"cursor_place", cursors::cursor_place(cursor), &[]);
+    stepped(b"step", cursor, cursor.step());
+    stepped(b"step_cursor", cursor, cursors::step_cursor(cursor));
+    stepped(b"step_back", cursor, cursor.step_back());
+    valued(
+        b"short_cursor_place",
+        cursors::short_cursor_place(cursor),
+        &[],
+    );
+    stepped(b"short_step", cursor, cursor.short_step());
+    stepped(b"short_step_back", cursor, cursor.short_step_back());
+    Some(())
 }
 
 // One ask.
-fn answer(letter: u8, ask: &[u8]) {
+fn answer(letter: u8, ask: &[u8]) -> Option<()> {
     match letter {
         b'w' => word_asked(ask),
         b'p' => plan_asked(ask),
@@ -302,22 +221,26 @@ fn answer(letter: u8, ask: &[u8]) {
         b's' => start_asked(ask),
         b'i' => picture_asked(ask),
         b'c' => cursor_asked(ask),
-        _ => {}
+        _ => None,
     }
+}
+
+// The letter of the first ask, what follows it, and the asks behind.
+fn first_ask(given: &[u8]) -> Option<(u8, &[u8], &[u8])>
+    ensures { IfSome result (λ a. length a.2.now < length given.now) }
+{
+    let (&letter, rest) = given.split_first()?;
+    let (long, rest) = size(rest)?;
+    let (ask, behind) = rest.split_at_checked(long)?;
+    Some((letter, ask, behind))
 }
 
 // Each ask, up to one that is cut.
 fn answer_all(given: &[u8]) {
-    let mut at = 0;
-    while HEAD <= given.len() - at {
-        let from = at + HEAD;
-        let long = size(given, at + 1);
-        if given.len() - from < long {
-            return;
-        }
-        let to = from + long;
-        answer(given[at], &given[from..to]);
-        at = to;
+    let mut rest = given;
+    while let Some((letter, ask, behind)) = first_ask(rest) {
+        answer(letter, ask);
+        rest = behind;
     }
 }
 

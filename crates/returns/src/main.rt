@@ -47,15 +47,6 @@ const SHORT_WALKS: [(u64, u64, u64); 16] = [
     (2, 61, 0),
 ];
 
-// What stands for a cursor where there is none: zero in every field.
-const NOWHERE: Cursor = Cursor {
-    k: 0,
-    n: 0,
-    word: [0; 60],
-    long: 0,
-    place: 0,
-};
-
 // The calls on a ring.
 trait Ring {
     fn start(k: u64, n: u64, place: u64) -> Result<Cursor, Refusal>;
@@ -172,7 +163,7 @@ fn compare(c: Cursor, d: Cursor) {
 
 // From a place back, and on to it again.
 fn return_to<R: Ring>(k: u64, n: u64, place: u64) {
-    let (number, first) = parts(R::start(k, n, place), NOWHERE);
+    let (number, first) = parts(R::start(k, n, place), Cursor::NOWHERE);
     line(k, n, place, u64::from(number));
     let turned = walk::<R, _>(first, |c| R::step_back(c));
     compare(first, turned);

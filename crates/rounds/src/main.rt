@@ -47,15 +47,6 @@ const SHORT_WALKS: [(u64, u64, u64); 16] = [
     (2, 61, 0),
 ];
 
-// What stands for a cursor where there is none: zero in every field.
-const NOWHERE: Cursor = Cursor {
-    k: 0,
-    n: 0,
-    word: [0; 60],
-    long: 0,
-    place: 0,
-};
-
 // The calls on a ring.
 trait Ring {
     fn start(k: u64, n: u64, place: u64) -> Result<Cursor, Refusal>;
@@ -173,7 +164,7 @@ fn step<R: Ring>(k: u64, n: u64, c: Cursor, turn: usize) -> Cursor {
 
 // A line for the start, then one for each step.
 fn walk<R: Ring>(k: u64, n: u64, place: u64) {
-    let (number, mut at) = parts(R::start(k, n, place), NOWHERE);
+    let (number, mut at) = parts(R::start(k, n, place), Cursor::NOWHERE);
     field(k);
     field(n);
     field(place);

@@ -11,12 +11,9 @@ fn main() {
     let long = io::read_full(STDIN, &mut room);
     let mut out = [0u8; pbm::MOST];
     let parts = pictures::parts(&room[..long], &mut out);
-    let head = parts.head;
-    let end = parts.end;
-    io::write_all(STDOUT, &out[..head]);
-    let mut left = parts.rows;
-    while 0 < left {
-        io::write_all(STDOUT, &out[head..end]);
-        left -= 1;
+    let (head, row) = out[..parts.end].split_at(parts.head);
+    io::write_all(STDOUT, head);
+    for _ in 0..parts.rows {
+        io::write_all(STDOUT, row);
     }
 }

@@ -1,10 +1,6 @@
--- `replies::answer_all` ends: each ask has at least the bytes of its head.
-use Prim.Native.Nat.{◌-◌, ◌≤◌}
+-- `replies::answer_all` ends: fewer bytes stand behind each ask.
 use lib.ListN.{length}
 use Rattle.replies.proofs.answer_all.Given as goal
 
-abbrev pub invariant-loop-at : goal.invariant-loop-at
-invariant-loop-at l = l.at ≤ length l.given
-
-abbrev pub decreases-loop-at : goal.decreases-loop-at
-decreases-loop-at l = length l.given - l.at
+abbrev pub decreases-loop-letter : goal.decreases-loop-letter
+decreases-loop-letter l = length l.rest
