@@ -5,7 +5,7 @@ use Rattle.substitutions.proofs.put_list.Goals as goal
 
 pub put_marks-found-requires : goal.put_marks-found-requires
 put_marks-found-requires c =
-    (record { plan = c.requires.plan; word = c.requires.word; room = writing_room c.loop-d.invariant (omega arith) (omega arith) }, omega arith)
+    (writing_room c.loop-d.invariant (omega arith) (omega arith), omega arith)
 
 pub overflow_add-found : goal.overflow_add-found
 overflow_add-found c = omega (arith, (writing_more c.loop-d.invariant (omega arith) (omega arith) refl c.put_marks-found.ensures).few)
