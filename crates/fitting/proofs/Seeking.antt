@@ -1,11 +1,11 @@
 -- The search: what is known of the window and of each filling, how the better of two places is found, and what the best of all fillings is.
-use mathlib.Core.Path.{◌≡◌, refl, sym, ◌∙◌, ap, ap₂, subst}
+use mathlib.Core.Path.{◌≡◌, sym, ◌∙◌, ap, ap₂, subst}
 use mathlib.Core.Bool.{Bool, true, false, ◌&&◌, not}
-use mathlib.Core.List.{List, []}
+use mathlib.Core.List.{List}
 use mathlib.Core.Logic.{inl, inr}
 use Prim.Native.Nat.{ℕ, ◌+◌, ◌^◌, ◌≤◌, ◌<◌}
 use native.Mathlib.Omega.{arith}
-use lib.Dec.{eqb, ltb}
+use lib.Dec.{ltb}
 use lib.ListN.{length}
 use borrow.Author.Tests.{ltb-true, ltb-false, lt-ltb, le-ltb, ne_eqb}
 use Rattle.theory.specs.Words.{pick, keep, marks_ok}
@@ -47,14 +47,8 @@ pub record Best (s : List ℕ) (x : DS.Strip) (w : List ℕ) (c b : ℕ) : Type 
   pub least : (i : ℕ) → i < c → laid_at s (spot x w i) ≡ true → b ≤ spot x w i
 
 module _ {s : List ℕ} {x : DS.Strip} {w : List ℕ} (h : Sought s x w) where
-  pub window-long : length w ≡ x.n
+  window-long : length w ≡ x.n
   window-long = (smudge_fine x.k x.n w h.fine).0
-
-  pub window_short : length w ≤ 60
-  window_short = omega (arith, window-long, (limits x).short)
-
-  pub few_erasures : length (keep unread w) ≤ 2
-  few_erasures = (smudge_fine x.k x.n w h.fine).1
 
   -- a filling is a word of the strip
   pub filling_on_strip : (c : ℕ) → WordOn x (filling x.k c w)
@@ -76,9 +70,6 @@ module _ {s : List ℕ} {x : DS.Strip} {w : List ℕ} (h : Sought s x w) where
       let long : length (filling (shades s) c w) ≡ marks s = filling-length (shades s) c w ∙ window-long ∙ h.plan.marked in
       let letters : marks_ok (shades s) (filling (shades s) c w) ≡ true = subst (λ k. marks_ok k (filling k c w) ≡ true) h.plan.letters (filling_on_strip c).marks in
       subst (λ p. In p (fitting s w)) (by_plan c) (laid_fits s w h.plan.faultless (filling (shades s) c w) long letters (filling-agrees (shades s) c w) (ap (laid_at s) (by_plan c) ∙ laid))
-
-  pub best_none : Best s x w 0 x.size
-  best_none = record { most = omega arith; fits = λ l. absurd (omega arith); least = λ i l. absurd (omega arith) }
 
   -- with one filling more
   module _ {c b : ℕ} (best : Best s x w c b) {r : ℕ} where

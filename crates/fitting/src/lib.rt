@@ -10,6 +10,7 @@ use shape::Strip;
 
 // The place of filling c, if it is below `best` and the window there is laid, else `best`. Once a laid one is known most are not below it, so the sections
 // are asked last.
+// kept: a struct of plan, s and w would be no plainer: find alone calls this, and takes the three itself.
 fn better(plan: &[u8], s: Strip, w: &[u8], c: u64, best: u64) -> u64
     requires { Sought plan.now s w.now }
     ensures { result ≡ better_of plan.now best (place_of s.k s.n (filling s.k c w.now)) }

@@ -1,28 +1,12 @@
 -- better: the filling, its place, and whether the window there is laid.
 use mathlib.Core.Path.{◌≡◌, sym, ◌∙◌, ap, subst}
 use native.Mathlib.Omega.{arith}
-use mathlib.Core.Bool.{not}
-use borrow.Author.Tests.{eq-eqb, ne_eqb}
-use lib.ListN.{replicate}
-use lib.Seq.{length-take-le}
 use Rattle.theory.specs.Strips.{place_of}
 use Rattle.shape.specs.Shapes.{WordOn}
-use Rattle.shape.proofs.Limits.{limits}
 use Rattle.plans.proofs.Laid.{laid_some, laid_none}
-use Rattle.fitting.proofs.Seeking.{window_short, filling_on_strip, spot, spot_small, not_lower, not_laid, lower}
+use Rattle.fitting.proofs.Seeking.{filling_on_strip, spot, spot_small, not_lower, not_laid, lower}
 use Rattle.fitting.proofs.better.Goals.{After-place_of-place, else-place-best-via-then-place-best+else-is_some, else-place-best-via-else-place-best}
 use Rattle.fitting.proofs.better.Goals as goal
-
-pub slice_bounds-room-end : goal.slice_bounds-room-end
-slice_bounds-room-end c = window_short c.requires
-
-pub slice_bounds-v-end : goal.slice_bounds-v-end
-slice_bounds-v-end c = sym (length-take-le _ (replicate 60 0) (window_short c.requires))
-
-pub fill-requires : goal.fill-requires
-fill-requires c =
-    let l = limits c.args.s in
-    (omega (arith, l.two), l.most, length-take-le _ (replicate 60 0) (window_short c.requires))
 
 pub place_of-place-requires : goal.place_of-place-requires
 place_of-place-requires c =
