@@ -1,9 +1,12 @@
 // The bytes of a laying plan: k, n, how many sections it has, and an entry for each: its offset, its length and, in a new record, its rail.
 #![tactic(auto)]
 
-ghost use Rattle.std.specs.Prelude.{◌≡◌, false, ◌<◌};
-ghost use Rattle.theory.specs.Plans.{torn, sections, section_count, entry_size, nth_s, rail_of};
+ghost use Rattle.std.specs.Prelude.{◌≡◌, false, ◌<◌, List, drop};
+ghost use Rattle.theory.specs.Plans.{Section, torn, sections, section_count, entry_size, nth_s, rail_of};
+ghost use Rattle.std.specs.Iterator.{YieldsFirstBy, item_count};
 ghost use Rattle.sections.specs.Read.{section_of};
+
+use std::marker::Model;
 
 // Where the count stands, bytes before the entries, and how many sections there may be.
 const COUNT: usize = 2;
@@ -93,4 +96,48 @@ pub fn rail_of(plan: &[u8], i: u64) -> u64
         return i;
     }
     section_at(plan, i).rail
+}
+
+// An iterator over the sections of a plan; its value is the list of those that are left.
+#[derive(Drop)]
+pub struct Sections<'a> {
+    plan: &'a [u8],
+    next: u64,
+}
+
+impl<'a> Model for Sections<'a> {
+    ghost Value = { List Section };
+
+    ghost view = { λ s. drop s.next (sections s.plan.now) };
+
+    ghost invariant = { λ s. torn s.plan.now ≡ false };
+}
+
+// The sections of a plan, in their order.
+pub fn of(plan: &[u8]) -> Sections<'_>
+    requires { torn plan.now ≡ false }
+    ensures { result ≡ sections plan.now }
+{
+    Sections { plan, next: 0 }
+}
+
+impl<'a> Iterator for Sections<'a> {
+    type Item = Section;
+
+    ghost next_gives = { YieldsFirstBy section_of (λ s. s) };
+
+    ghost remaining = { item_count (λ s. s) };
+
+    // As a call of its own it makes a walk over a long plan take four times as long.
+    #[inline]
+    #[tactic(auto, using(theory::proofs::Records::sections_count, theory::proofs::Records::from_section, std::proofs::lemmas::List::drop_all))]
+    fn next(&mut self) -> Option<Section> {
+        if self.next < count(self.plan) {
+            let section = section_at(self.plan, self.next);
+            self.next += 1;
+            Some(section)
+        } else {
+            None
+        }
+    }
 }
