@@ -12,14 +12,12 @@ use sections::Section;
 use shape::Strip;
 
 // Does each section start where the one ahead ends or later, have n letters or more, and end by the top?
-#[tactic(auto, using(theory::proofs::Records::sections_count, theory::proofs::Records::from_section, std::proofs::lemmas::List::drop_all))]
 fn is_straight(n: u64, top: u64, plan: &[u8]) -> bool
     requires { torn plan.now ≡ false }
     ensures { result ≡ straight_from n top 0 (sections plan.now) }
 {
     let mut end = 0;
-    for i in 0..sections::count(plan) {
-        let section = sections::section_at(plan, i);
+    for section in sections::of(plan) {
         let offset = section.offset;
         let long = section.long;
         if offset < end {
