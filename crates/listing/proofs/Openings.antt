@@ -1,18 +1,15 @@
--- What an opened plan is known to be, and its listing: an accepted plan's strip and sections, a refused plan's fault.
+-- An accepted plan: where its sections start, and its listing, the strip and the sections.
 use mathlib.Core.Path.{◌≡◌, sym, ◌∙◌, ap, ap₂}
 use mathlib.Core.List.{List, ◌++◌}
 use Prim.Native.Nat.{ℕ, ◌^◌, ◌<◌}
 use native.Mathlib.Omega.{arith}
-use borrow.Author.Tests.{eq-eqb, ne_eqb}
+use borrow.Author.Tests.{eq-eqb}
 use Rattle.theory.specs.Words.{pick}
 use Rattle.theory.specs.Plans.{shades, marks, section_count, sections, nth_s, plan_fault}
 use Rattle.theory.proofs.Records.{sections_count}
 use Rattle.theory.proofs.Laying.{section_straight}
 use Rattle.shape.specs.declared.Strip as DS
 use Rattle.shape.proofs.Limits.{limits}
-use Rattle.calls.specs.declared.refusal.Refusal.{Refusal}
-use Rattle.calls.specs.Codes.{code}
-use Rattle.calls.proofs.Answers.{code_some}
 use Rattle.plans.specs.Opened.{Accepted}
 use Rattle.lines.specs.Lines.{refused_line}
 use Rattle.listing.specs.Listings.{strip_line, section_lines, listing}
@@ -29,9 +26,3 @@ module _ (s : List ℕ) {x : DS.Strip} (plan : Accepted s x) where
   accepted_text =
       let lines : ℕ → ℕ → List ℕ = λ k n. strip_line k n ++ section_lines k n 0 (sections s) in
       ap₂ lines plan.letters plan.marked ∙ sym (ap (λ b. pick b (lines (shades s) (marks s)) (refused_line (plan_fault s))) (eq-eqb _ _ plan.faultless))
-
--- a refused plan
-pub refused_text_lem : (s : List ℕ) {n : ℕ} (e : Refusal) → n ≡ code e → code e ≡ plan_fault s → refused_line n ≡ listing s
-refused_text_lem s e g h =
-    let lines = strip_line (shades s) (marks s) ++ section_lines (shades s) (marks s) 0 (sections s) in
-    ap refused_line (g ∙ h) ∙ sym (ap (λ b. pick b lines (refused_line (plan_fault s))) (ne_eqb (plan_fault s) 0 (λ z. code_some e (h ∙ z))))

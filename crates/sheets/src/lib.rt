@@ -27,7 +27,7 @@ fn check(input: &[u8]) -> Result<Strip, Refusal>
     if input.len() < WORD {
         return Err(Refusal::NoSuchStrip);
     }
-    calls::check_word(input[0] as u64, input[1] as u64, &input[WORD..])
+    calls::check_word(u64::from(input[0]), u64::from(input[1]), &input[WORD..])
 }
 
 // The line of the number n - i, if that divides n.
