@@ -6,13 +6,10 @@ use borrow.Author.Rules.{rules}
 use Rattle.theory.specs.Words.{rank}
 use Rattle.shape.proofs.Limits.{limits}
 use Rattle.moebius.specs.Summands.{total}
-use Rattle.ranks.proofs.Shapes.{counted, sized_summable}
+use Rattle.ranks.proofs.Shapes.{sized_summable}
 use Rattle.ranks.proofs.Quotients.{rank-sum, only}
 use Rattle.ranks.proofs.of_prenecklace.Goals.{After-sizes-sizes}
 use Rattle.ranks.proofs.of_prenecklace.Goals as goal
-
-pub sizes-sizes-requires : goal.sizes-sizes-requires
-sizes-sizes-requires c = (counted c.requires.0, c.requires.1)
 
 -- the sizes are there
 ranked : (c : After-sizes-sizes) → let a = c.args in total a.s.n c.sizes-sizes.result ≡ pos (a.s.n * rank a.s.k a.w.now)
