@@ -20,7 +20,6 @@ pub record Summable (k n : ℕ) (sizes : List ℕ) : Type 0 where
   pub some : 1 ≤ n
   pub short : n ≤ 60
   pub range : k ^ n ≤ 2 ^ 60
-  pub size : length sizes ≡ 61
   pub small : (d : ℕ) → get_or sizes d 0 ≤ k ^ d
 
 -- the powers of k up to k^n; behind them any numbers, but none more than a power of k

@@ -1,9 +1,14 @@
 // Möbius values and the signed sum over the divisors of a number (document 004, section 3).
 #![tactic(auto)]
 
-ghost use Rattle.std.specs.Prelude.{◌≡◌, ◌^◌, ◌≤◌, pos, length, get_or};
+ghost use Rattle.std.specs.Prelude.{◌≡◌, ◌^◌, ◌≤◌, pos, get_or};
 ghost use Rattle.theory.specs.Sums.{mobius, divisors_in, running};
 ghost use Rattle.moebius.specs.Summands.{summand, Summable, Powers};
+
+// The numbers that are summed: one for each d from 0 to 60.
+const SIZES: usize = 61;
+
+pub type Sizes = [u64; SIZES];
 
 // The Möbius values of 1 to 60.
 const MOBIUS: [i8; 60] = [
@@ -21,8 +26,8 @@ fn moebius(n: u64) -> i8
 }
 
 // The term of a divisor d of n in a signed sum: the Möbius value of n/d times the number at d.
-pub fn term(n: u64, d: u64, sizes: &[u64]) -> i64
-    requires { (1 ≤ d) × (d ≤ n) × (n ≤ 60) × (length sizes.now ≡ 61) × (get_or sizes.now d 0 ≤ 2 ^ 60) }
+pub fn term(n: u64, d: u64, sizes: &Sizes) -> i64
+    requires { (1 ≤ d) × (d ≤ n) × (n ≤ 60) × (get_or sizes.now d 0 ≤ 2 ^ 60) }
     ensures { result ≡ summand n sizes.now d }
 {
     let size = sizes[d as usize];
@@ -30,7 +35,7 @@ pub fn term(n: u64, d: u64, sizes: &[u64]) -> i64
 }
 
 // The sum of the terms of n's divisors, from n downwards; of the divisors among the first `count` numbers n, n - 1, .. alone.
-pub fn divisor_sum(k: u64, n: u64, count: u64, sizes: &[u64]) -> i64
+pub fn divisor_sum(k: u64, n: u64, count: u64, sizes: &Sizes) -> i64
     requires { Summable k n sizes.now × (count ≤ n) }
     ensures { result ≡ running (summand n sizes.now) (pos 0) (divisors_in n count) }
 {
@@ -45,11 +50,11 @@ pub fn divisor_sum(k: u64, n: u64, count: u64, sizes: &[u64]) -> i64
 }
 
 // The powers of k up to k^n.
-pub fn powers(k: u64, n: u64) -> [u64; 61]
+pub fn powers(k: u64, n: u64) -> Sizes
     requires { (1 ≤ k) × (n ≤ 60) × (k ^ n ≤ 2 ^ 60) }
     ensures { Powers k n result }
 {
-    let mut t = [0u64; 61];
+    let mut t = [0u64; SIZES];
     t[0] = 1;
     for d in 1..=n as usize {
         t[d] = t[d - 1] * k;

@@ -26,10 +26,10 @@ counted {s} {w} h =
     }
 
 pub sized_summable : {k n : ℕ} {w t : List ℕ} → Limits k n → Sized k w t → Summable k n t
-sized_summable l t = record { two = l.two; some = l.some; short = l.short; range = l.range; size = t.size; small = t.small }
+sized_summable l t = record { two = l.two; some = l.some; short = l.short; range = l.range; small = t.small }
 
 pub powers_summable : {k n : ℕ} {t : List ℕ} → Limits k n → Powers k n t → Summable k n t
-powers_summable l t = record { two = l.two; some = l.some; short = l.short; range = l.range; size = t.size; small = t.small }
+powers_summable l t = record { two = l.two; some = l.some; short = l.short; range = l.range; small = t.small }
 
 -- n letters for each of so many words are no more than the strip has, also up to any word's rank
 pub words_fit : (s : DS.Strip) {words : ℕ} → words ≤ how_many s.k s.n → s.n * words ≤ 2 ^ 60

@@ -11,10 +11,11 @@ ghost use Rattle.moebius.specs.Summands.{Summable, Whole, total};
 ghost use Rattle.shape.specs.Shapes.{WordOn};
 
 use automaton::Table;
+use moebius::Sizes;
 use shape::Strip;
 
 // The sum over all divisors of n, divided by n. It is n times a number, so nothing is left.
-fn quotient(s: Strip, sizes: &[u64]) -> u64
+fn quotient(s: Strip, sizes: &Sizes) -> u64
     requires { Summable s.k s.n sizes.now × Whole s.n sizes.now }
     ensures { pos (s.n * result) ≡ total s.n sizes.now }
 {
@@ -33,7 +34,7 @@ pub fn of_prenecklace(s: Strip, w: &[u8], t: &mut Table) -> u64
 }
 
 // The sizes of CS that document 004's sum for any word asks for: those of the largest necklace not above it.
-pub fn sizes_of(s: Strip, w: &[u8]) -> [u64; 61]
+pub fn sizes_of(s: Strip, w: &[u8]) -> Sizes
     requires { WordOn s w.now }
     ensures { Sized s.k (necklace_up_to s.k w.now) result }
 {

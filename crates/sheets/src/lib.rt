@@ -11,6 +11,7 @@ ghost use Rattle.calls.specs.Checks.{Checks};
 ghost use Rattle.sheets.specs.Worksheets.{letters, long, word_in, most, line_at, sheet, sheet_fault, worksheet};
 
 use calls::Refusal;
+use moebius::Sizes;
 use shape::Strip;
 
 // Bytes that hold any worksheet: a word has at most 60 letters.
@@ -31,7 +32,7 @@ fn check(input: &[u8]) -> Result<Strip, Refusal>
 }
 
 // The line of the number n - i, if that divides n.
-fn put_line(k: u64, n: u64, i: u64, sizes: &[u64], out: &mut [u8], at: usize) -> usize
+fn put_line(k: u64, n: u64, i: u64, sizes: &Sizes, out: &mut [u8], at: usize) -> usize
     requires { Summable k n sizes.now × (i < n) × (at + line ≤ length out.old) }
     ensures { Adds out.old at (line_at (summand n sizes.now) n i) out.new result × (result ≤ at + line) }
 {

@@ -6,7 +6,7 @@ use Rattle.moebius.proofs.divisor_sum.Goals as goal
 
 pub term-sum-requires : goal.term-sum-requires
 term-sum-requires c =
-    (omega arith, omega arith, c.requires.0.short, c.requires.0.size, entry_small c.args.k c.args.n c.args.sizes.now c.requires.0 _ (omega arith))
+    (omega arith, omega arith, c.requires.0.short, entry_small c.args.k c.args.n c.args.sizes.now c.requires.0 _ (omega arith))
 
 pub overflow_add-sum : goal.overflow_add-sum
 overflow_add-sum c = sum_fits c.requires.0 (omega arith) c.if-n-d-eq0.true c.loop-i.invariant c.term-sum.ensures (record { sfits = c.term-sum.type_inv })

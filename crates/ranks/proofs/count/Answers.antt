@@ -1,7 +1,6 @@
 -- `ranks::count` is the number of Lyndon words: the signed sum of the powers of k is n times it.
 use mathlib.Core.Path.{◌≡◌}
 use Prim.Native.Nat.{◌*◌}
-use native.Mathlib.Omega.{arith}
 use lib.IntN.{pos}
 use Rattle.theory.specs.Words.{how_many}
 use Rattle.shape.proofs.Limits.{limits}
@@ -10,9 +9,6 @@ use Rattle.ranks.proofs.Shapes.{powers_summable}
 use Rattle.ranks.proofs.Quotients.{count_total, only}
 use Rattle.ranks.proofs.count.Goals.{After-powers-sizes}
 use Rattle.ranks.proofs.count.Goals as goal
-
-pub powers-sizes-requires : goal.powers-sizes-requires
-powers-sizes-requires c = let l = limits c.args.s in (omega (arith, l.two, l.some), omega (arith, l.most, l.short), l.range)
 
 -- the powers are there
 many : (c : After-powers-sizes) → let s = c.args.s in total s.n c.powers-sizes.result ≡ pos (s.n * how_many s.k s.n)

@@ -9,9 +9,6 @@ use Rattle.ranks.proofs.Quotients.{cast_ok, part}
 use Rattle.ranks.proofs.quotient.Goals.{After-divisor_sum-sum}
 use Rattle.ranks.proofs.quotient.Goals as goal
 
-pub divisor_sum-sum-requires : goal.divisor_sum-sum-requires
-divisor_sum-sum-requires c = (c.requires.0, omega arith)
-
 -- the sum is over all divisors
 sum_is : (c : After-divisor_sum-sum) → let a = c.args in c.divisor_sum-sum.result ≡ total a.s.n a.sizes.now
 sum_is c = let a = c.args in c.divisor_sum-sum.ensures ∙ ap (running (summand a.s.n a.sizes.now) (pos 0)) (in_all a.s.n a.s.n (omega arith))

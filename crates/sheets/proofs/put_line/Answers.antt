@@ -21,7 +21,7 @@ use Rattle.sheets.proofs.put_line.Goals as goal
 
 pub term-term-requires : goal.term-term-requires
 term-term-requires c =
-    (omega arith, omega arith, c.requires.0.short, c.requires.0.size, entry_small c.args.k c.args.n c.args.sizes.now c.requires.0 _ (omega arith))
+    (omega arith, omega arith, c.requires.0.short, entry_small c.args.k c.args.n c.args.sizes.now c.requires.0 _ (omega arith))
 
 -- a signed number as it is handed on
 abbrev seen : ℤ → ℤ
