@@ -52,6 +52,7 @@ fn short_holder(s: Strip, p: u64, v: &mut [u8]) -> Spot
     }
 }
 
+// kept: n bytes by a clause: n is known when it runs.
 // The word is put over the start of a buffer of n bytes; what stands behind it there is not promised.
 fn holder(lengths: Lengths, s: Strip, p: u64, v: &mut [u8]) -> Spot
     requires { (p < size_in lengths s) × (length v.old ≡ s.n) }

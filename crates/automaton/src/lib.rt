@@ -26,6 +26,7 @@ fn start(t: &mut Table, n: usize)
     t[0] = 1;
 }
 
+// kept: `Counted` as a clause: whole and sizes ask for it to call this, and use k and w apart.
 // One table for all prefixes of w: by the letter read, a path goes on to the next state or goes home.
 fn fill(k: u64, w: &[u8], t: &mut Table)
     requires { Counted k w.now }

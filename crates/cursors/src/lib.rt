@@ -141,6 +141,7 @@ pub fn short_cursor_place(c: Cursor) -> Result<u64, Refusal>
 }
 
 // To the next mark of the held word, or to the first of the ring's next word.
+// kept: on and back by two functions, as in rings; `GoodOn` as a clause: each that asks for it is called once, behind the check that shows it.
 fn onward(lengths: Lengths, s: Strip, c: Cursor) -> Stepped
     requires { GoodOn lengths s c }
     ensures { Goes (step_in (ok_of lengths) (cursor_in c)) result }

@@ -12,6 +12,7 @@ ghost use Rattle.listing.specs.Listings.{most, strip_line, section_line, section
 use sections::Section;
 use shape::{Lengths, Strip};
 
+// kept: a number for the clauses, here and in sheets: an array of so many bytes would not take a longer buffer, as text does.
 // Bytes that hold any listing: a plan has at most 500 sections.
 pub const MOST: usize = lines::LINE * 501;
 

@@ -7,6 +7,7 @@ ghost use Rattle.buffers.specs.Buffers.{over};
 ghost use Rattle.numbers.specs.Numbers.{put_be};
 
 // A number in 2 bytes.
+// kept: 2 and 8 bytes by functions of their own: a generic one would need a trait for the two types, and be longer than these.
 pub fn put16(v: u64, out: &mut [u8])
     requires { 2 ≤ length out.old }
     ensures { out.new ≡ over (put_be 2 v) out.old }

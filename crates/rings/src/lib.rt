@@ -81,6 +81,8 @@ fn put_last(lengths: Lengths, k: u64, w: &mut [u8]) -> usize
 }
 
 // The ring's word after the one in the first `long` letters; the first after the last.
+// kept: on and back by two functions: one would take step, turn and promise from a trait, which is longer than both.
+// kept: a buffer and the length of its word, here and in steps and access: `Cursor` has its word so, and without a heap no slice grows.
 pub fn next_word(lengths: Lengths, s: Strip, w: &mut [u8], long: usize) -> Moved
     requires { HeldOn lengths s w.old long }
     ensures { MovedIs lengths s w.old long w.new result }

@@ -1,4 +1,5 @@
 // The boundary for C: each call is one line that calls its family, with the family's promise. include/strip.h declares them.
+// kept: each answers a number and no Result, since C reads it.
 #![tactic(auto)]
 
 ghost use Rattle.words.specs.Says.{TurnSays};

@@ -5,6 +5,7 @@ const STDIN: i32 = 0;
 
 const STDOUT: i32 = 1;
 
+// kept: alike to `worksheet`, but a call of another crate with a buffer of another size; the rest is calls of the kit.
 // The buffer that is read into holds more than the longest plan, so that a longer record is seen to be torn.
 fn main() {
     let mut room = io::large_buffer();

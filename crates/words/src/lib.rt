@@ -8,6 +8,7 @@ ghost use Rattle.words.specs.Says.{LyndonSays, RotationSays, TurnSays, RootSays}
 use calls::Refusal;
 
 // 1 for a Lyndon word, else 0.
+// kept: a number and no bool: README's table has it so, and `Demands.lyndon` speaks of the values 0 and 1.
 pub fn is_lyndon(k: u64, n: u64, word: &[u8]) -> Result<u64, Refusal>
     ensures { LyndonSays k n word.now result }
 {
