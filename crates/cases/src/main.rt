@@ -3,14 +3,16 @@
 
 use calls::Refusal;
 
+const STDOUT: i32 = 1;
+
 // Between two fields.
 fn space() {
-    io::write_all(1, b" ");
+    io::write_all(STDOUT, b" ");
 }
 
 // A letter in decimal.
 fn letter(x: u8) {
-    io::print_decimal(1, u64::from(x));
+    io::print_decimal(STDOUT, u64::from(x));
 }
 
 // A word or what a tray holds, letter by letter.
@@ -22,7 +24,7 @@ fn letters(word: &[u8]) {
 
 // A byte in two hexadecimal digits.
 fn byte(x: u8) {
-    io::print_hex(1, u64::from(x), 2);
+    io::print_hex(STDOUT, u64::from(x), 2);
 }
 
 // What a tray holds, byte by byte.
@@ -34,11 +36,11 @@ fn bytes(tray: &[u8]) {
 
 // The start of a line: the call and its strip.
 fn asked(call: &[u8], k: u64, n: u64) {
-    io::write_all(1, call);
+    io::write_all(STDOUT, call);
     space();
-    io::print_decimal(1, k);
+    io::print_decimal(STDOUT, k);
     space();
-    io::print_decimal(1, n);
+    io::print_decimal(STDOUT, n);
     space();
 }
 
@@ -53,10 +55,10 @@ fn number_and_value(answer: Result<u64, Refusal>) -> (u8, u64) {
 // The end of a line: number and value.
 fn answered(answer: Result<u64, Refusal>) {
     let (number, value) = number_and_value(answer);
-    io::print_decimal(1, u64::from(number));
+    io::print_decimal(STDOUT, u64::from(number));
     space();
-    io::print_decimal(1, value);
-    io::write_all(1, b"\n");
+    io::print_decimal(STDOUT, value);
+    io::write_all(STDOUT, b"\n");
 }
 
 // rank_of, in a tray that is two bytes too long.
@@ -66,10 +68,10 @@ fn rank(k: u64, n: u64, word: &[u8]) {
     asked(b"rank", k, n);
     letters(word);
     space();
-    io::print_decimal(1, u64::from(calls::number(answer)));
+    io::print_decimal(STDOUT, u64::from(calls::number(answer)));
     space();
     bytes(&tray);
-    io::write_all(1, b"\n");
+    io::write_all(STDOUT, b"\n");
 }
 
 // word_of, in a tray of 8 bytes.
@@ -77,12 +79,12 @@ fn word(k: u64, n: u64, index: u64) {
     let mut tray = [7u8; 8];
     let answer = ranking::word_of(k, n, index, &mut tray);
     asked(b"word", k, n);
-    io::print_decimal(1, index);
+    io::print_decimal(STDOUT, index);
     space();
-    io::print_decimal(1, u64::from(calls::number(answer)));
+    io::print_decimal(STDOUT, u64::from(calls::number(answer)));
     space();
     letters(&tray);
-    io::write_all(1, b"\n");
+    io::write_all(STDOUT, b"\n");
 }
 
 // The words of the indices up to `last`, from index 0, which has none.
@@ -113,12 +115,12 @@ fn tests(k: u64, n: u64, word: &[u8]) {
     asked(b"rotation", k, n);
     letters(word);
     space();
-    io::print_decimal(1, u64::from(number));
+    io::print_decimal(STDOUT, u64::from(number));
     space();
     letters(&tray);
     space();
-    io::print_decimal(1, turn);
-    io::write_all(1, b"\n");
+    io::print_decimal(STDOUT, turn);
+    io::write_all(STDOUT, b"\n");
 }
 
 // Ranks and words of document 01.
@@ -161,12 +163,12 @@ fn turns() {
 
 // bill.
 fn bill(plan: &[u8], price: u64, charge: u64) {
-    io::write_all(1, b"bill ");
+    io::write_all(STDOUT, b"bill ");
     bytes(plan);
     space();
-    io::print_decimal(1, price);
+    io::print_decimal(STDOUT, price);
     space();
-    io::print_decimal(1, charge);
+    io::print_decimal(STDOUT, charge);
     space();
     answered(bills::bill(plan, price, charge));
 }

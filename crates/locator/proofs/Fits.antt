@@ -1,21 +1,17 @@
--- The first fit of a window in a text: that it fits and is the first.
+-- The first fit of a window in a text: that it fits and is the first, and how the trials find it.
 use mathlib.Core.Path.{◌≡◌, sym, ◌∙◌, ap}
-use mathlib.Core.Bool.{Bool, true, false}
+use mathlib.Core.Bool.{true, false}
 use mathlib.Core.List.{List}
 use mathlib.Core.Logic.{inl, inr}
 use Prim.Native.Nat.{ℕ, zero, suc, ◌+◌, ◌-◌, ◌≤◌, ◌<◌}
 use native.Mathlib.Omega.{arith}
-use lib.Dec.{eqb}
-use lib.ListN.{length, take, drop}
+use native.Mathlib.Numerals.{add-one}
+use lib.ListN.{length, get_or, take, drop, length-drop}
+use lib.Seq.{length-take-le, get_or-take, get_or-drop}
 use Rattle.theory.specs.Words.{same}
 use Rattle.theory.proofs.Base.{test, Cmp, cmp, less, equal, more}
 use Rattle.theory.proofs.Order.{same_eq, same_ne}
-use Rattle.std.specs.Cmp.Lexicographic.{pointwise}
-use Rattle.std.specs.Option.{MatchOption, unwrap_or}
-use Rattle.std.proofs.Common.{Option, None, Some, Decides}
-use Rattle.std.proofs.lemmas.Bool.Decides.{Decides-eqb}
-use Rattle.std.proofs.lemmas.List.{take_rest}
-use Rattle.std.proofs.lemmas.Slice.Eq.{slice_eq-Decides}
+use Rattle.lyndon.proofs.Scans.{same_on, same_differ, same_end}
 use Rattle.locator.specs.Fits.{fit_from, first_fit}
 
 -- what stands at an offset
@@ -41,34 +37,36 @@ pub first_fit-found : (text w : List ℕ) (q : ℕ) → q ≤ length text - leng
     → (first_fit text w ≤ q) × (stands text w (first_fit text w) ≡ w)
 first_fit-found text w q h e = fit_found (length text - length w + 1) 0 q text w (omega arith) (omega arith) e
 
--- what `starts_with` tells of the text from an offset on
-pub told : (text w : List ℕ) (p : ℕ) (r : Bool) → r ≡ pointwise eqb w (take (length w) (take (length text - p) (drop p text))) → Decides r (stands text w p ≡ w)
-told text w p r e =
-    let d = slice_eq-Decides Decides-eqb w (stands text w p) r (e ∙ ap (λ x. pointwise eqb w (take (length w) x)) (take_rest text p)) in
-    (λ t. sym (d.0 t), λ h. d.1 (sym h))
+-- the trials: the first, an offset that fits, one that does not
+fit_step : (text w : List ℕ) (m p : ℕ) → p < m → fit_from (m - p) p text w ≡ fit_from (suc (m - (p + 1))) p text w
+fit_step text w m p h =
+    let n : m - p ≡ suc (m - (p + 1)) = omega arith in
+    ap (λ x. fit_from x p text w) n
 
--- the window stands at no offset before q, and it stands at q, if q is an offset
-fit_is : (l p q : ℕ) (text w : List ℕ) → p ≤ q → q ≤ p + l → ((k : ℕ) → p ≤ k → k < q → ¬ (stands text w k ≡ w)) → (q < p + l → stands text w q ≡ w) → fit_from l p text w ≡ q
-fit_is zero p q text w a b none here = omega arith
-fit_is (suc l) p q text w a b none here = elim (test (same (stands text w p) w)) [
-  | inl t ↦ rw t (at t (cmp p q))
-  | inr t ↦ rw t (fit_is l (suc p) q text w (after t (cmp p q)) (omega arith) (λ k h g. none k (omega arith) g) (λ h. here (omega arith)))
-]
-  where
-    at : same (stands text w p) w ≡ true → Cmp p q → p ≡ q
-    at t (less h) = absurd (none p (omega arith) h (same_eq (stands text w p) w t))
-    at t (equal h) = h
-    at t (more h) = absurd (omega arith)
+pub fit_here : (text w : List ℕ) (m p : ℕ) → p < m → same (stands text w p) w ≡ true → fit_from (m - p) p text w ≡ p
+fit_here text w m p h t = fit_step text w m p h ∙ rw t
 
-    after : same (stands text w p) w ≡ false → Cmp p q → suc p ≤ q
-    after t (less h) = h
-    after t (equal h) = absurd (same_ne t (ap (stands text w) h ∙ here (omega arith)))
-    after t (more h) = absurd (omega arith)
+pub fit_on : (text w : List ℕ) (m p : ℕ) → p < m → same (stands text w p) w ≡ false
+    → fit_from (m - p) p text w ≡ fit_from (m - (p + 1)) (p + 1) text w
+fit_on text w m p h t = fit_step text w m p h ∙ rw (t, add-one p)
 
--- the first of the offsets at which the window stands, or else their number
-pub first_fit-is : (text w : List ℕ) (r : Option ℕ)
-    → MatchOption r ((k : ℕ) → 0 ≤ k → k < length text - length w + 1 → ¬ (stands text w k ≡ w))
-    (λ i. (0 ≤ i) × (i < length text - length w + 1) × (stands text w i ≡ w) × ((k : ℕ) → 0 ≤ k → k < i → ¬ (stands text w k ≡ w)))
-    → unwrap_or r (length text - length w + 1) ≡ first_fit text w
-first_fit-is text w None none = sym (fit_is (length text - length w + 1) 0 (length text - length w + 1) text w (omega arith) (omega arith) none (λ h. absurd (omega arith)))
-first_fit-is text w (Some i) (_, h, e, none) = sym (fit_is (length text - length w + 1) 0 i text w (omega arith) (omega arith) none (λ _. e))
+-- a trial: its first j letters agree
+abbrev pub Trial : List ℕ → List ℕ → ℕ → ℕ → Type 0
+Trial text w p j = same (stands text w p) w ≡ same (drop j (stands text w p)) (drop j w)
+
+module _ (text w : List ℕ) (p j : ℕ) (room : p + length w ≤ length text) (at : Trial text w p j) where
+  stands-length : length (stands text w p) ≡ length w
+  stands-length = length-take-le (length w) (drop p text) (omega (arith, length-drop p text))
+
+  stands_letter : j < length w → get_or (stands text w p) j 0 ≡ get_or text (p + j) 0
+  stands_letter h = get_or-take (length w) (drop p text) j 0 h ∙ get_or-drop p text j 0
+
+  pub trial_on : j < length w → get_or text (p + j) 0 ≡ get_or w j 0 → Trial text w p (j + 1)
+  trial_on h e = at ∙ same_on (stands text w p) w j (omega (arith, stands-length)) h (stands_letter h ∙ e)
+
+  pub trial_differs : j < length w → ¬ (get_or text (p + j) 0 ≡ get_or w j 0) → same (stands text w p) w ≡ false
+  trial_differs h n =
+      at ∙ same_differ (stands text w p) w j (omega (arith, stands-length)) h (λ e. n (sym (stands_letter h) ∙ e))
+
+  pub trial_ends : j ≡ length w → same (stands text w p) w ≡ true
+  trial_ends e = at ∙ same_end (stands text w p) w j (omega (arith, stands-length)) (omega arith)

@@ -18,6 +18,8 @@ ghost use Rattle.std.specs.Prelude.{◌≤◌, ◌<◌, length, IfSome};
 use calls::Refusal;
 use cursors::{Cursor, Stepped};
 
+const STDIN: i32 = 0;
+
 const STDOUT: i32 = 1;
 
 // Bytes of the tray for a word, of which the first are lent: more than a word of a strip has.
@@ -247,6 +249,6 @@ fn answer_all(given: &[u8]) {
 // As many asks as 65,536 bytes hold.
 fn main() {
     let mut room = io::large_buffer();
-    let long = io::read_full(0, &mut room);
+    let long = io::read_full(STDIN, &mut room);
     answer_all(&room[..long]);
 }

@@ -1,17 +1,26 @@
--- `locator::first_fit` meets its contract: the search stops at the first offset at which the window stands.
-use mathlib.Core.Path.{◌≡◌, refl, ◌∙◌}
-use mathlib.Core.Bool.{true, false}
-use Rattle.std.proofs.Common.{rules}
-use Rattle.std.proofs.lemmas.Bool.{false≢true}
-use Rattle.std.proofs.lemmas.Iterator.{first_from_Range}
-use Rattle.locator.proofs.Fits.{stands, told, first_fit-is}
+use mathlib.Core.Path.{refl, sym, ◌∙◌}
+use Prim.Native.Nat.{◌+◌, ◌-◌}
+use native.Mathlib.Omega.{arith}
+use lib.ListN.{length}
+use Rattle.locator.proofs.Fits.{trial_on, trial_differs, trial_ends, fit_here, fit_on}
 use Rattle.locator.proofs.first_fit.Goals as goal
 
-pub returns : goal.returns
-returns c =
+pub loop-j-preserved : goal.loop-j-preserved
+loop-j-preserved c =
     let t = c.args.text.now in
     let w = c.args.window.now in
-    let found = first_from_Range _ _ _ c.find.result (λ p. stands t w p ≡ w) (λ p. ¬ (stands t w p ≡ w)) c.find.ensures.ran
-    (λ p q k. (told t w p true (search rules)).0 refl)
-    (λ p q k. (search rules, λ h. false≢true ((told t w p false (search rules)).1 h))) in
-    c.unwrap_or.ensures ∙ first_fit-is t w c.find.result found
+    (refl, trial_on t w c.search.p c.loop-j.j (omega arith) c.loop-j.invariant.1 (omega arith) c.if-text-p.false)
+
+pub search-preserved : goal.search-preserved
+search-preserved c =
+    let t = c.args.text.now in
+    let w = c.args.window.now in
+    let m = length t - length w + 1 in
+    (omega arith, c.search.invariant.1 ∙ fit_on t w m c.search.p (omega arith) (trial_differs t w c.search.p c.loop-j.j (omega arith) c.loop-j.invariant.1 (omega arith) c.if-text-p.true))
+
+pub returns-after-loop-j : goal.returns-after-loop-j
+returns-after-loop-j c =
+    let t = c.args.text.now in
+    let w = c.args.window.now in
+    let m = length t - length w + 1 in
+    sym (c.search.invariant.1 ∙ fit_here t w m c.search.p (omega arith) (trial_ends t w c.search.p c.loop-j.j (omega arith) c.loop-j.invariant.1 (omega arith)))
