@@ -1,5 +1,5 @@
 -- What the cursor calls promise, for any bytes in a cursor's fields, on either ring: a call is about one of them, and says which.
-use Rattle.std.specs.Prelude.{◌≡◌, Result, Ok, Err, MatchResult, Bool, true, ◌&&◌, not, List, [], ◌∷◌, ℕ, eqb, leb, length, take, drop, replicate}
+use Rattle.std.specs.Prelude.{◌≡◌, Result, Ok, Err, MatchResult, Bool, true, ◌&&◌, not, List, [], ◌∷◌, ℕ, eqb, leb, length, take, drop}
 use Rattle.theory.specs.Words.{first_of, when}
 use Rattle.theory.specs.Rings.{Cursor, Stepped, cursor, cursor_on, good_in, position_in, step_in, back_in}
 use Rattle.theory.specs.Strips.{cursor_ok, cursor_at, place_in, step_of, back_of, strip_fault}
@@ -12,6 +12,7 @@ use Rattle.calls.specs.Answers.{ValueIs}
 use Rattle.calls.specs.declared.refusal.Refusal.{Refusal}
 use Rattle.calls.specs.Codes.{code}
 use Rattle.cursors.specs.declared.Cursor as DC
+use Rattle.cursors.specs.declared.TheConstants.Cursor.{NOWHERE}
 use Rattle.cursors.specs.declared.Stepped as DT
 
 -- the held word in 60 bytes with zeros after it. An array has so many bytes, but a definition does not know it.
@@ -31,9 +32,9 @@ Is x c = (cursor_in c ≡ x) × (tidy c ≡ true)
 abbrev pub empty : DC.Cursor → Bool
 empty c = eqb c.k 0 && (eqb c.n 0 && (eqb c.long 0 && (eqb c.place 0 && all_zero c.word)))
 
--- what stands for a cursor where there is none: zero in every field
+-- what stands for a cursor where there is none, the constant Cursor::NOWHERE: zero in every field
 abbrev pub nowhere : DC.Cursor
-nowhere = record { k = 0; n = 0; word = replicate 60 0; long = 0; place = 0 }
+nowhere = NOWHERE
 
 -- a start: the cursor at the place, or the refusal
 abbrev pub Starts : ℕ → Cursor → Result DC.Cursor Refusal → Type 0

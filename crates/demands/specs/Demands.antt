@@ -84,7 +84,7 @@ pub record Demands : Type 0 where
   -- call by call: which number is given when, and what stays in a tray
   pub refusals : Refusals
   pub trays : Trays
-  -- a refusal's value is 0, also beside a tray
+  -- a refusal has no value, for which 0 stands, also beside a tray
   pub no_value : (f v : ℕ) (r : Result ℕ Refusal) → ValueIs f v r → number_of r ≢ 0 → value_of r ≡ 0
   pub no_value_beside : (f v : ℕ) (b t t' : List ℕ) (r : Result ℕ Refusal) → IntoValue f v b t t' r → number_of r ≢ 0 → value_of r ≡ 0
   -- a number is read back from its 8 bytes
@@ -157,14 +157,14 @@ pub record Demands : Type 0 where
   -- stripprint: the head and as many rows, as its parts are told, are the file that the request asks for; nothing, if it asks for none
   pub picture_by_rows : (s b t : List ℕ) (r : DP.Parts) → parts_room ≤ length b → PartsSay s b t r
       → take r.head t ++ repeated r.rows (drop r.head (take r.end t)) ≡ picture_for s
-  -- Cursors, on either ring: a start gives a cursor without fault on the place; refused, one that is zero in every field
+  -- Cursors, on either ring: a start gives a cursor without fault on the place; refused, none, for which the constant that is zero in every field stands
   pub started : (lengths : Lengths) (k n p : ℕ) (r : Result DC.Cursor Refusal) → admitted k n ≡ true → p < size_of lengths k n → StartOn lengths k n p r
       → (number_of r ≡ 0) × ((cursor_of r).k ≡ k) × ((cursor_of r).n ≡ n) × (fault_on lengths (cursor_of r) ≡ 0) × (position_in (ok_of lengths) (cursor_in (cursor_of r)) ≡ p)
   pub not_started : (lengths : Lengths) (k n p : ℕ) (r : Result DC.Cursor Refusal) → StartOn lengths k n p r → number_of r ≢ 0 → empty (cursor_of r) ≡ true
   -- any cursor without fault tells its place, which is on the ring
   pub stands : (lengths : Lengths) (c : DC.Cursor) (v : Result ℕ Refusal) → fault_on lengths c ≡ 0 → WhereOn lengths c v
       → (number_of v ≡ 0) × (value_of v ≡ position_in (ok_of lengths) (cursor_in c)) × (value_of v < size_of lengths c.k c.n)
-  -- a step, on or back, of any cursor without fault; refused, it gives the cursor back
+  -- a step, on or back, of any cursor without fault; refused, it gives nothing, and the cursor is as it was
   pub step : (lengths : Lengths) (way : Bool) (c : DC.Cursor) (q : Result DT.Stepped Refusal) → fault_on lengths c ≡ 0 → Says lengths way c q → StepsOn lengths way c q
   pub not_stepped : (lengths : Lengths) (way : Bool) (c : DC.Cursor) (q : Result DT.Stepped Refusal) → Says lengths way c q → number_of q ≢ 0
       → (mark_of q ≡ 0) × (passed_of q ≡ 0) × (after c q ≡ c)

@@ -14,6 +14,7 @@ pub struct Spot {
     pub section: u64,
 }
 
+// In any plan, for any window.
 pub fn look(plan: &[u8], window: &[u8]) -> Result<Spot, Refusal>
     ensures { Looks plan.now window.now result }
 {
