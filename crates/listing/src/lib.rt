@@ -9,7 +9,7 @@ ghost use Rattle.plans.specs.Opened.{Accepted};
 ghost use Rattle.lines.specs.Lines.{line};
 ghost use Rattle.listing.specs.Listings.{most, strip_line, section_line, section_lines, listing};
 
-use sections::Section;
+use sections::{Plan, Section};
 use shape::{Lengths, Strip};
 
 // kept: a number for the clauses, here and in sheets: an array of so many bytes would not take a longer buffer, as text does.
@@ -47,9 +47,10 @@ fn put_sections(plan: &[u8], s: Strip, out: &mut [u8], at: usize) -> usize
     requires { Accepted plan.now s × (at ≤ line) × (most ≤ length out.old) }
     ensures { Adds out.old at (section_lines s.k s.n 0 (sections plan.now)) out.new result }
 {
+    let sections = Plan::of_accepted(plan);
     let mut filled = at;
-    for i in 0..sections::count(plan) {
-        filled = put_section(s, i, sections::section_at(plan, i), out, filled);
+    for i in 0..sections.count() {
+        filled = put_section(s, i, sections.section_at(i), out, filled);
     }
     filled
 }

@@ -7,6 +7,7 @@ ghost use Rattle.calls.specs.Answers.{Into};
 ghost use Rattle.lookups.specs.Says.{answer_at, LaidIn, PlanSays, LookupSays, SmudgedSays};
 
 use calls::Refusal;
+use sections::Plan;
 
 // The answer's bytes: the section's number in 2, the distance in 8, the rail in 2; where the last two begin, and how many there are.
 const DISTANCE: usize = 2;
@@ -23,10 +24,11 @@ fn give(plan: &[u8], place: u64, section: u64, tray: &mut [u8]) -> Result<(), Re
     if tray.len() < ANSWER {
         return Err(Refusal::TrayTooSmall);
     }
-    let distance = place - sections::section_at(plan, section).offset;
+    let sections = Plan::of_accepted(plan);
+    let distance = place - sections.section_at(section).offset;
     numbers::put16(section, tray);
     numbers::put64(distance, &mut tray[DISTANCE..]);
-    numbers::put16(sections::rail_of(plan, section), &mut tray[RAIL..]);
+    numbers::put16(sections.rail_of(section), &mut tray[RAIL..]);
     Ok(())
 }
 

@@ -1,23 +1,22 @@
 // Laying plans: is one accepted, and which of its sections is the window at a place laid in?
 #![tactic(auto)]
 
-ghost use Rattle.std.specs.Prelude.{◌≡◌, IfOk, false, ◌^◌, ◌<◌};
-ghost use Rattle.theory.specs.Plans.{end_of, torn, straight_from, sections, plan_fault, welded};
+ghost use Rattle.std.specs.Prelude.{◌≡◌, IfOk, ◌^◌, ◌<◌};
+ghost use Rattle.theory.specs.Plans.{end_of, straight_from, sections, plan_fault, welded};
 ghost use Rattle.sections.specs.Read.{section_of};
 ghost use Rattle.plans.specs.Opened.{Opens, Accepted, Lays};
 ghost use Rattle.plans.specs.Begun.{Begun};
 
 use calls::Refusal;
-use sections::Section;
+use sections::{Plan, Section};
 use shape::Strip;
 
 // Does each section start where the one ahead ends or later, have n letters or more, and end by the top?
-fn is_straight(n: u64, top: u64, plan: &[u8]) -> bool
-    requires { torn plan.now ≡ false }
-    ensures { result ≡ straight_from n top 0 (sections plan.now) }
+fn is_straight(n: u64, top: u64, plan: &Plan) -> bool
+    ensures { result ≡ straight_from n top 0 (sections plan.now.bytes.now) }
 {
     let mut end = 0;
-    for section in sections::of(plan) {
+    for section in plan.sections() {
         let offset = section.offset;
         let long = section.long;
         if offset < end {
@@ -42,12 +41,10 @@ pub fn open(plan: &[u8]) -> Result<Strip, Refusal>
     ensures strip { Opens plan.now result }
     ensures accepted { IfOk result (λ s. Accepted plan.now s) }
 {
-    if sections::is_torn(plan) {
-        return Err(Refusal::TornPlan);
-    }
+    let sections = Plan::new(plan).ok_or(Refusal::TornPlan)?;
     let n = plan[1] as u64;
     let strip = calls::check_strip(plan[0] as u64, n)?;
-    if is_straight(n, strip.size, plan) {
+    if is_straight(n, strip.size, &sections) {
         return Ok(strip);
     }
     Err(Refusal::CrookedPlan)
@@ -58,11 +55,12 @@ fn begun(plan: &[u8], place: u64) -> u64
     requires { plan_fault plan.now ≡ 0 }
     ensures { Begun place (sections plan.now) result }
 {
+    let sections = Plan::of_accepted(plan);
     let mut low = 0;
-    let mut high = sections::count(plan);
+    let mut high = sections.count();
     while low < high {
         let middle = low + (high - low) / 2;
-        if sections::section_at(plan, middle).offset <= place {
+        if sections.section_at(middle).offset <= place {
             low = middle + 1;
         } else {
             high = middle;
@@ -89,7 +87,8 @@ pub fn laying(plan: &[u8], place: u64) -> Option<u64>
     if looked == 0 {
         return None;
     }
-    let section = sections::section_at(plan, looked - 1);
+    let sections = Plan::of_accepted(plan);
+    let section = sections.section_at(looked - 1);
     let end = section.offset + section.long;
     if end <= place {
         return None;
@@ -97,10 +96,10 @@ pub fn laying(plan: &[u8], place: u64) -> Option<u64>
     if place + plan[1] as u64 <= end {
         return Some(looked - 1);
     }
-    if looked == sections::count(plan) {
+    if looked == sections.count() {
         return None;
     }
-    if is_welded(section, sections::section_at(plan, looked)) {
+    if is_welded(section, sections.section_at(looked)) {
         return Some(looked - 1);
     }
     None

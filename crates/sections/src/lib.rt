@@ -1,8 +1,8 @@
 // The bytes of a laying plan: k, n, how many sections it has, and an entry for each: its offset, its length and, in a new record, its rail.
 #![tactic(auto)]
 
-ghost use Rattle.std.specs.Prelude.{◌≡◌, false, ◌<◌, List, drop};
-ghost use Rattle.theory.specs.Plans.{Section, torn, sections, section_count, entry_size, nth_s, rail_of};
+ghost use Rattle.std.specs.Prelude.{◌≡◌, true, false, ◌<◌, List, MatchOption, drop};
+ghost use Rattle.theory.specs.Plans.{Section, torn, plan_fault, sections, section_count, entry_size, nth_s, rail_of};
 ghost use Rattle.std.specs.Iterator.{YieldsFirstBy, item_count};
 ghost use Rattle.sections.specs.Read.{section_of};
 
@@ -22,43 +22,6 @@ const PAIR: usize = 16;
 
 const RAILED: usize = 18;
 
-// Under 4 bytes, too many sections, or a total that fits neither record?
-pub fn is_torn(plan: &[u8]) -> bool
-    ensures { result ≡ torn plan.now }
-{
-    if plan.len() < HEAD {
-        return true;
-    }
-    let count = numbers::get16(plan, COUNT);
-    if SECTIONS < count {
-        return true;
-    }
-    if plan.len() == HEAD + PAIR * count as usize {
-        return false;
-    }
-    plan.len() != HEAD + RAILED * count as usize
-}
-
-// How many sections a plan has.
-pub fn count(plan: &[u8]) -> u64
-    requires { torn plan.now ≡ false }
-    ensures { result ≡ section_count plan.now }
-{
-    numbers::get16(plan, COUNT)
-}
-
-// Bytes of an entry: the total tells which record it is.
-#[tactic(auto, using(theory::proofs::Records::size_of_lem))]
-fn entry_size(plan: &[u8]) -> usize
-    requires { torn plan.now ≡ false }
-    ensures { result ≡ entry_size plan.now }
-{
-    if plan.len() == HEAD + PAIR * count(plan) as usize {
-        return PAIR;
-    }
-    RAILED
-}
-
 // Where a section begins, its length, and the rail written with it, 0 in an old record.
 #[derive(Clone, Copy)]
 pub struct Section {
@@ -67,58 +30,112 @@ pub struct Section {
     pub rail: u64,
 }
 
-// Section i of a plan.
-#[tactic(auto, using(crate::proofs::Entries::entry_inside))]
-pub fn section_at(plan: &[u8], i: u64) -> Section
-    requires { (torn plan.now ≡ false) × (i < section_count plan.now) }
-    ensures { section_of result ≡ nth_s (sections plan.now) i }
-{
-    let size = entry_size(plan);
-    let at = HEAD + size * i as usize;
-    let rail = if size == PAIR {
-        0
-    } else {
-        numbers::get16(plan, at + PAIR)
-    };
-    Section {
-        offset: numbers::get64(plan, at),
-        long: numbers::get64(plan, at + NUMBER),
-        rail,
-    }
+// The bytes of a plan that is not torn.
+#[derive(Clone, Copy)]
+pub struct Plan<'a> {
+    bytes: &'a [u8],
+    ghost whole: { torn bytes.now ≡ false },
 }
 
-// The rail that is answered for section i: the one written with it, in an old record the section's own number.
-pub fn rail_of(plan: &[u8], i: u64) -> u64
-    requires { (torn plan.now ≡ false) × (i < section_count plan.now) }
-    ensures { result ≡ rail_of plan.now i }
-{
-    if entry_size(plan) == PAIR {
-        return i;
+impl<'a> Plan<'a> {
+    // The plan of these bytes; none under 4 bytes, of too many sections, or with a total that fits neither record.
+    pub fn new(bytes: &'a [u8]) -> Option<Plan<'a>>
+        ensures { MatchOption result (torn bytes.now ≡ true) (λ p. p.bytes.now ≡ bytes.now) }
+    {
+        if bytes.len() < HEAD {
+            return None;
+        }
+        let count = numbers::get16(bytes, COUNT);
+        if SECTIONS < count {
+            return None;
+        }
+        let entries = bytes.len() - HEAD;
+        if entries != PAIR * count as usize && entries != RAILED * count as usize {
+            return None;
+        }
+        Some(Plan { bytes })
     }
-    section_at(plan, i).rail
+
+    // The plan of bytes that are known to be accepted; nothing is tested again.
+    #[tactic(auto, using(theory::proofs::Laying::plan_good))]
+    pub fn of_accepted(bytes: &'a [u8]) -> Plan<'a>
+        requires { plan_fault bytes.now ≡ 0 }
+        ensures { result.bytes.now ≡ bytes.now }
+    {
+        Plan { bytes }
+    }
+
+    // How many sections it has.
+    pub fn count(&self) -> u64
+        ensures { result ≡ section_count self.now.bytes.now }
+    {
+        numbers::get16(self.bytes, COUNT)
+    }
+
+    // Bytes of an entry: the total tells which record it is.
+    #[tactic(auto, using(theory::proofs::Records::size_of_lem))]
+    fn entry_size(&self) -> usize
+        ensures { result ≡ entry_size self.now.bytes.now }
+    {
+        if self.bytes.len() == HEAD + PAIR * self.count() as usize {
+            return PAIR;
+        }
+        RAILED
+    }
+
+    // Section i.
+    #[tactic(auto, using(crate::proofs::Entries::entry_inside))]
+    pub fn section_at(&self, i: u64) -> Section
+        requires { i < section_count self.now.bytes.now }
+        ensures { section_of result ≡ nth_s (sections self.now.bytes.now) i }
+    {
+        let size = self.entry_size();
+        let at = HEAD + size * i as usize;
+        let rail = if size == PAIR {
+            0
+        } else {
+            numbers::get16(self.bytes, at + PAIR)
+        };
+        Section {
+            offset: numbers::get64(self.bytes, at),
+            long: numbers::get64(self.bytes, at + NUMBER),
+            rail,
+        }
+    }
+
+    // The rail that is answered for section i: the one written with it, in an old record the section's own number.
+    pub fn rail_of(&self, i: u64) -> u64
+        requires { i < section_count self.now.bytes.now }
+        ensures { result ≡ rail_of self.now.bytes.now i }
+    {
+        if self.entry_size() == PAIR {
+            return i;
+        }
+        self.section_at(i).rail
+    }
+
+    // The sections, in their order.
+    pub fn sections(&self) -> Sections<'a>
+        ensures { result ≡ sections self.now.bytes.now }
+    {
+        Sections {
+            plan: *self,
+            next: 0,
+        }
+    }
 }
 
 // An iterator over the sections of a plan; its value is the list of those that are left.
 #[derive(Drop)]
 pub struct Sections<'a> {
-    plan: &'a [u8],
+    plan: Plan<'a>,
     next: u64,
 }
 
 impl<'a> Model for Sections<'a> {
     ghost Value = { List Section };
 
-    ghost view = { λ s. drop s.next (sections s.plan.now) };
-
-    ghost invariant = { λ s. torn s.plan.now ≡ false };
-}
-
-// The sections of a plan, in their order.
-pub fn of(plan: &[u8]) -> Sections<'_>
-    requires { torn plan.now ≡ false }
-    ensures { result ≡ sections plan.now }
-{
-    Sections { plan, next: 0 }
+    ghost view = { λ s. drop s.next (sections s.plan.bytes.now) };
 }
 
 impl<'a> Iterator for Sections<'a> {
@@ -132,8 +149,8 @@ impl<'a> Iterator for Sections<'a> {
     #[inline]
     #[tactic(auto, using(theory::proofs::Records::sections_count, theory::proofs::Records::from_section, std::proofs::lemmas::List::drop_all))]
     fn next(&mut self) -> Option<Section> {
-        if self.next < count(self.plan) {
-            let section = section_at(self.plan, self.next);
+        if self.next < self.plan.count() {
+            let section = self.plan.section_at(self.next);
             self.next += 1;
             Some(section)
         } else {

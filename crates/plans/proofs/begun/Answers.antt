@@ -1,19 +1,16 @@
 use Prim.Native.Nat.{◌≤◌}
-use mathlib.Core.Path.{◌≡◌, sym, ap, subst}
+use mathlib.Core.Path.{◌≡◌, sym, ◌∙◌, ap, subst}
 use native.Mathlib.Omega.{arith}
-use Rattle.theory.specs.Plans.{sections}
+use Rattle.theory.specs.Plans.{section_count, sections}
 use Rattle.theory.proofs.Records.{sections_count}
-use Rattle.theory.proofs.Laying.{plan_good}
 use Rattle.plans.specs.Begun.{Between}
 use Rattle.plans.proofs.Places.{anywhere, few, raise, lower}
 use Rattle.plans.proofs.begun.Goals.{In-loop-low}
 use Rattle.plans.proofs.begun.Goals as goal
 
-pub count-high-requires : goal.count-high-requires
-count-high-requires c = (plan_good c.args.plan.now c.requires).0
-
 pub loop-low-init : goal.loop-low-init
-loop-low-init c = subst (Between c.args.place (sections c.args.plan.now) 0) (sym c.count-high.ensures) (anywhere c.args.plan.now c.requires c.args.place)
+loop-low-init c =
+    subst (Between c.args.place (sections c.args.plan.now) 0) (sym (c.count-high.ensures ∙ ap section_count c.of_accepted-sections.ensures)) (anywhere c.args.plan.now c.requires c.args.place)
 
 -- a plan has few sections
 few-left : (c : In-loop-low) → c.loop-low.high ≤ 500
@@ -23,20 +20,19 @@ pub overflow_add-middle : goal.overflow_add-middle
 overflow_add-middle c = omega (arith, few-left (goal.at.overflow_add-middle c).In-loop-low)
 
 pub section_at-requires : goal.section_at-requires
-section_at-requires c =
-    ((plan_good c.args.plan.now c.requires).0, omega (arith, sections_count c.args.plan.now, c.loop-low.invariant.within))
+section_at-requires c = omega (arith, sections_count c.args.plan.now, c.loop-low.invariant.within, ap section_count c.of_accepted-sections.ensures)
 
 pub overflow_add-low : goal.overflow_add-low
 overflow_add-low c = omega (arith, few-left (goal.at.overflow_add-low c).In-loop-low)
 
 pub loop-low-preserved-then-section_at-place : goal.loop-low-preserved-then-section_at-place
 loop-low-preserved-then-section_at-place c =
-    let offset = ap (λ x. x.offset) c.section_at.ensures in
+    let offset = ap (λ x. x.offset) (rw c.of_accepted-sections.ensures at c.section_at.ensures) in
     raise c.args.plan.now c.requires c.args.place c.loop-low.invariant _ (omega arith) (omega arith) (omega (arith, offset))
 
 pub loop-low-preserved : goal.loop-low-preserved
 loop-low-preserved c =
-    let offset = ap (λ x. x.offset) c.section_at.ensures in
+    let offset = ap (λ x. x.offset) (rw c.of_accepted-sections.ensures at c.section_at.ensures) in
     lower c.args.plan.now c.requires c.args.place c.loop-low.invariant _ (omega arith) (omega arith) (omega (arith, offset))
 
 pub returns : goal.returns

@@ -1,9 +1,9 @@
 -- laying: only the last section that begins at the place or before it can hold the window's first letter.
-use mathlib.Core.Path.{sym, ◌∙◌, subst}
+use mathlib.Core.Path.{sym, ◌∙◌, ap, subst}
 use native.Mathlib.Omega.{arith}
-use Rattle.theory.specs.Plans.{sections}
+use Rattle.theory.specs.Plans.{section_count, sections}
 use Rattle.theory.proofs.Records.{sections_count}
-use Rattle.theory.proofs.Laying.{plan_good, accepted_whole}
+use Rattle.theory.proofs.Laying.{accepted_whole}
 use Rattle.sections.specs.Read.{section_of}
 use Rattle.plans.specs.Begun.{Begun}
 use Rattle.plans.proofs.Places.{Looked, look, end_fits, nowhere, passed, whole, last, across, parted}
@@ -16,13 +16,13 @@ returns-then-looked-eq0 c =
 
 pub section_at-section-requires : goal.section_at-section-requires
 section_at-section-requires c =
-    ((plan_good c.args.plan.now c.requires.0).0, omega (arith, c.begun-looked.ensures.within, sections_count c.args.plan.now))
+    omega (arith, c.begun-looked.ensures.within, sections_count c.args.plan.now, ap section_count c.of_accepted-sections.ensures)
 
 -- the section that is looked at
 seen : (c : After-section_at-section)
     → Looked c.args.plan.now c.requires.0 c.args.place c.begun-looked.result (section_of c.section_at-section.result)
 seen c =
-    look c.args.plan.now c.requires.0 c.args.place c.begun-looked.ensures (omega arith) c.section_at-section.ensures
+    look c.args.plan.now c.requires.0 c.args.place c.begun-looked.ensures (omega arith) (rw c.of_accepted-sections.ensures at c.section_at-section.ensures)
 
 pub overflow_add-end : goal.overflow_add-end
 overflow_add-end c = omega (arith, end_fits c.args.plan.now c.requires.0 c.args.place (seen (goal.at.overflow_add-end c).After-section_at-section))
@@ -39,16 +39,13 @@ pub returns-then-place-plan : goal.returns-then-place-plan
 returns-then-place-plan c =
     whole c.args.plan.now c.requires.0 c.args.place (seen (goal.at.returns-then-place-plan c).After-section_at-section) c.if-place-plan.true ∙ omega (arith, c.if-looked-eq0.false)
 
-pub count-requires : goal.count-requires
-count-requires c = (plan_good c.args.plan.now c.requires.0).0
-
 pub returns-then-looked-count : goal.returns-then-looked-count
 returns-then-looked-count c =
-    last c.args.plan.now c.requires.0 c.args.place (seen (goal.at.returns-then-looked-count c).After-section_at-section) c.if-place-plan.false (omega arith)
+    last c.args.plan.now c.requires.0 c.args.place (seen (goal.at.returns-then-looked-count c).After-section_at-section) c.if-place-plan.false (omega (arith, ap section_count c.of_accepted-sections.ensures))
 
 pub section_at-requires : goal.section_at-requires
 section_at-requires c =
-    ((plan_good c.args.plan.now c.requires.0).0, omega (arith, c.begun-looked.ensures.within, sections_count c.args.plan.now))
+    omega (arith, c.begun-looked.ensures.within, sections_count c.args.plan.now, ap section_count c.of_accepted-sections.ensures)
 
 pub is_welded-requires : goal.is_welded-requires
 is_welded-requires c =
@@ -56,8 +53,8 @@ is_welded-requires c =
 
 pub returns-then-is_welded : goal.returns-then-is_welded
 returns-then-is_welded c =
-    across c.args.plan.now c.requires.0 c.args.place (seen (goal.at.returns-then-is_welded c).After-section_at-section) c.section_at.ensures (omega arith) (λ z. omega (arith, z)) (sym c.is_welded.ensures ∙ c.if-is_welded.true) ∙ omega (arith, c.if-looked-eq0.false)
+    across c.args.plan.now c.requires.0 c.args.place (seen (goal.at.returns-then-is_welded c).After-section_at-section) (rw c.of_accepted-sections.ensures at c.section_at.ensures) (omega arith) (λ z. omega (arith, z, ap section_count c.of_accepted-sections.ensures)) (sym c.is_welded.ensures ∙ c.if-is_welded.true) ∙ omega (arith, c.if-looked-eq0.false)
 
 pub returns : goal.returns
 returns c =
-    parted c.args.plan.now c.requires.0 c.args.place (seen (goal.at.returns c).After-section_at-section) c.section_at.ensures c.if-place-plan.false (sym c.is_welded.ensures ∙ c.if-is_welded.false)
+    parted c.args.plan.now c.requires.0 c.args.place (seen (goal.at.returns c).After-section_at-section) (rw c.of_accepted-sections.ensures at c.section_at.ensures) c.if-place-plan.false (sym c.is_welded.ensures ∙ c.if-is_welded.false)
