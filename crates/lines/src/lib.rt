@@ -1,18 +1,19 @@
 // Lines that programs print: the one line of a refusal, and the bytes that hold any line.
 #![tactic(auto)]
 
-ghost use Rattle.std.specs.Prelude.{◌≤◌, length};
-ghost use Rattle.texts.specs.Texts.{Adds};
+ghost use Rattle.texts.specs.Writers.{HasRoom, Writes};
 ghost use Rattle.lines.specs.Lines.{line, refused_line};
+
+use texts::Text;
 
 // Bytes that hold any line.
 pub const LINE: usize = 128;
 
-// The line of a refusal, at the buffer's start.
-pub fn put_refused(number: u8, out: &mut [u8]) -> usize
-    requires { line ≤ length out.old }
-    ensures { Adds out.old 0 (refused_line number) out.new result }
+// The line of a refusal.
+pub fn put_refused(number: u8, text: &mut Text)
+    requires { HasRoom text.old line }
+    ensures { Writes text.old (refused_line number) text.new }
 {
-    let end = texts::put_bytes(b"refused ", out, 0);
-    texts::put_number(u64::from(number), b'\n', out, end)
+    text.bytes(b"refused ");
+    text.number(u64::from(number), b'\n');
 }

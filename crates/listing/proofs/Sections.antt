@@ -15,10 +15,12 @@ use Rattle.theory.proofs.Reading.{letters-length}
 use Rattle.theory.proofs.Rings.{strip-marks}
 use Rattle.shape.specs.declared.Strip as DS
 use Rattle.shape.proofs.Limits.{limits}
-use Rattle.texts.specs.Texts.{decimal, glyphs, fields, Adds}
+use Rattle.texts.specs.declared.Text.{Text}
+use Rattle.texts.specs.Texts.{decimal, glyphs, fields}
+use Rattle.texts.specs.Writers.{HasRoom, Writes}
 use Rattle.lines.specs.Lines.{line}
 use Rattle.listing.specs.Listings.{most, section_line, section_lines}
-use Rattle.texts.proofs.Adding.{adds_as}
+use Rattle.texts.proofs.Writing.{writes_as}
 use Rattle.texts.proofs.Digits.{glyphs-length}
 use Rattle.access.proofs.Reading.{room, in_room}
 use Rattle.lines.proofs.Building.{Written, next_room, more_line}
@@ -64,19 +66,18 @@ lines_next k n i xs h =
     ∙ lines_behind k n 0 (take i xs) (nth_s xs i)
     ∙ ap (λ j. section_lines k n 0 (take i xs) ++ section_line k n j (nth_s xs i)) e)
 
--- the lines of the first i sections, added behind `at` bytes, none longer than a line may be
-pub record Lines (k n : ℕ) (xs : List Section) (i : ℕ) (before : List ℕ) (at : ℕ) (after : List ℕ) (end : ℕ) : Type 0 where
-  pub written : Written before at (line * i) (section_lines k n 0 (take i xs)) after end
+-- the lines of the first i sections are added, none longer than a line may be
+pub record Lines (k n : ℕ) (xs : List Section) (i : ℕ) (before after : Text) : Type 0 where
+  pub written : Written before (line * i) (section_lines k n 0 (take i xs)) after
 
-module _ {k n i : ℕ} {xs : List Section} {b c : List ℕ} {at e : ℕ} (l : Lines k n xs i b at c e) where
-  pub line-room : at ≤ line → i < 500 → most ≤ length b → e + line ≤ length c
+module _ {k n i : ℕ} {xs : List Section} {a b : Text} (l : Lines k n xs i a b) where
+  pub line-room : a.end ≤ line → i < 500 → most ≤ length a.out.now → HasRoom b line
   line-room h g r = next_room i 500 l.written g (omega arith)
 
-  pub one_more : {d : List ℕ} {f : ℕ} {y : Section} → Adds c e (section_line k n i y) d f → f ≤ e + line → length d ≡ length c → y ≡ nth_s xs i → i < length xs
-      → Lines k n xs (i + 1) b at d f
-  one_more {y = y} a g same t h =
+  pub one_more : {c : Text} {y : Section} → Writes b (section_line k n i y) c → c.end ≤ b.end + line → y ≡ nth_s xs i → i < length xs → Lines k n xs (i + 1) a c
+  one_more {y = y} w g t h =
       let text = ap (λ z. section_lines k n 0 (take i xs) ++ section_line k n i z) t ∙ lines_next k n i xs h in
-      record { written = more_line i (section_line k n i y) _ l.written a g same text }
+      record { written = more_line i (section_line k n i y) _ l.written w g text }
 
-  pub all_lines : length xs ≤ i → Adds b at (section_lines k n 0 xs) c e
-  all_lines h = adds_as l.written.adds (ap (section_lines k n 0) (take_all i xs h))
+  pub all_lines : length xs ≤ i → Writes a (section_lines k n 0 xs) b
+  all_lines h = writes_as l.written.writes (ap (section_lines k n 0) (take_all i xs h))

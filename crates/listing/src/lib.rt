@@ -4,6 +4,7 @@
 ghost use Rattle.std.specs.Prelude.{◌+◌, ◌≤◌, ◌<◌, length};
 ghost use Rattle.theory.specs.Plans.{sections};
 ghost use Rattle.texts.specs.Texts.{Adds};
+ghost use Rattle.texts.specs.Writers.{HasRoom, Writes};
 ghost use Rattle.sections.specs.Read.{section_of};
 ghost use Rattle.plans.specs.Opened.{Accepted};
 ghost use Rattle.lines.specs.Lines.{line};
@@ -11,48 +12,47 @@ ghost use Rattle.listing.specs.Listings.{most, strip_line, section_line, section
 
 use sections::{Plan, Section};
 use shape::{Lengths, Strip};
+use texts::Text;
 
 // kept: a number for the clauses, here and in sheets: an array of so many bytes would not take a longer buffer, as text does.
 // Bytes that hold any listing: a plan has at most 500 sections.
 pub const MOST: usize = lines::LINE * 501;
 
 // The strip that a plan is laid on.
-fn put_strip(s: Strip, out: &mut [u8]) -> usize
-    requires { line ≤ length out.old }
-    ensures { Adds out.old 0 (strip_line s.k s.n) out.new result × (result ≤ line) }
+fn put_strip(s: Strip, text: &mut Text)
+    requires { HasRoom text.old line }
+    ensures { Writes text.old (strip_line s.k s.n) text.new × (text.new.end ≤ text.old.end + line) }
 {
-    let word = texts::put_bytes(b"strip ", out, 0);
-    let shades = texts::put_number(s.k, b' ', out, word);
-    let marks = texts::put_number(s.n, b' ', out, shades);
-    texts::put_number(s.size, b'\n', out, marks)
+    text.bytes(b"strip ");
+    text.number(s.k, b' ');
+    text.number(s.n, b' ');
+    text.number(s.size, b'\n');
 }
 
 // The number, offset and length of a section, and its first window.
-fn put_section(s: Strip, i: u64, section: Section, out: &mut [u8], at: usize) -> usize
-    requires { (section.offset < s.size) × (at + line ≤ length out.old) }
-    ensures { Adds out.old at (section_line s.k s.n i (section_of section)) out.new result × (result ≤ at + line) }
+fn put_section(s: Strip, i: u64, section: Section, text: &mut Text)
+    requires { (section.offset < s.size) × HasRoom text.old line }
+    ensures { Writes text.old (section_line s.k s.n i (section_of section)) text.new × (text.new.end ≤ text.old.end + line) }
 {
-    let number = texts::put_number(i, b' ', out, at);
-    let offset = texts::put_number(section.offset, b' ', out, number);
-    let numbers = texts::put_number(section.long, b' ', out, offset);
+    text.number(i, b' ');
+    text.number(section.offset, b' ');
+    text.number(section.long, b' ');
     let mut room = [0u8; Strip::LONGEST];
     let window = &mut room[..s.n as usize];
     access::letters(Lengths::Divisors, s, section.offset, window);
-    let end = texts::put_letters(window, out, numbers);
-    texts::put_bytes(b"\n", out, end)
+    text.letters(window);
+    text.bytes(b"\n");
 }
 
 // The sections of an accepted plan, one behind the other.
-fn put_sections(plan: &[u8], s: Strip, out: &mut [u8], at: usize) -> usize
-    requires { Accepted plan.now s × (at ≤ line) × (most ≤ length out.old) }
-    ensures { Adds out.old at (section_lines s.k s.n 0 (sections plan.now)) out.new result }
+fn put_sections(plan: &[u8], s: Strip, text: &mut Text)
+    requires { Accepted plan.now s × (text.old.end ≤ line) × (most ≤ length text.old.out.now) }
+    ensures { Writes text.old (section_lines s.k s.n 0 (sections plan.now)) text.new }
 {
     let sections = Plan::of_accepted(plan);
-    let mut filled = at;
     for i in 0..sections.count() {
-        filled = put_section(s, i, sections.section_at(i), out, filled);
+        put_section(s, i, sections.section_at(i), text);
     }
-    filled
 }
 
 // The listing of a plan, and how long it is.
@@ -60,11 +60,13 @@ pub fn text(plan: &[u8], out: &mut [u8]) -> usize
     requires { most ≤ length out.old }
     ensures { Adds out.old 0 (listing plan.now) out.new result }
 {
+    let mut listing = Text::from(out);
     match plans::open(plan) {
         Ok(s) => {
-            let end = put_strip(s, out);
-            put_sections(plan, s, out, end)
+            put_strip(s, &mut listing);
+            put_sections(plan, s, &mut listing);
         }
-        Err(refusal) => lines::put_refused(u8::from(refusal), out),
+        Err(refusal) => lines::put_refused(u8::from(refusal), &mut listing),
     }
+    listing.end
 }

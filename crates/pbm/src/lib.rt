@@ -10,6 +10,7 @@ ghost use Rattle.pbm.specs.Pictures.{row_size, file_size, row_text, head_text, p
 ghost use Rattle.pbm.specs.Parts.{Frame, Drawable, Parted};
 
 use shape::{Lengths, Strip};
+use texts::Text;
 
 // A line has so many digits.
 const LINE: usize = 70;
@@ -32,9 +33,11 @@ fn put_head(width: u64, height: u64, out: &mut [u8]) -> usize
     requires { length (head_text width height) ≤ length out.old }
     ensures { Adds out.old 0 (head_text width height) out.new result }
 {
-    let magic = texts::put_bytes(b"P1\n", out, 0);
-    let across = texts::put_number(width, b' ', out, magic);
-    texts::put_number(height, b'\n', out, across)
+    let mut text = Text::from(out);
+    text.bytes(b"P1\n");
+    text.number(width, b' ');
+    text.number(height, b'\n');
+    text.end
 }
 
 // The marks behind the first `lead` bytes, as a row over the whole buffer. Each mark is read before a byte is written over it.

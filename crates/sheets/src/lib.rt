@@ -6,6 +6,7 @@ ghost use Rattle.std.specs.Prelude.{IfOk, ◌+◌, ◌≤◌, ◌<◌, length};
 ghost use Rattle.shape.specs.Shapes.{WordOn};
 ghost use Rattle.moebius.specs.Summands.{Summable, summand};
 ghost use Rattle.texts.specs.Texts.{Adds};
+ghost use Rattle.texts.specs.Writers.{HasRoom, Writes};
 ghost use Rattle.lines.specs.Lines.{line};
 ghost use Rattle.calls.specs.Checks.{Checks};
 ghost use Rattle.sheets.specs.Worksheets.{letters, long, word_in, most, line_at, sheet, sheet_fault, worksheet};
@@ -13,6 +14,7 @@ ghost use Rattle.sheets.specs.Worksheets.{letters, long, word_in, most, line_at,
 use calls::Refusal;
 use moebius::Sizes;
 use shape::Strip;
+use texts::Text;
 
 // Bytes that hold any worksheet: a word has at most 60 letters.
 pub const MOST: usize = lines::LINE * Strip::LONGEST;
@@ -32,32 +34,30 @@ fn check(input: &[u8]) -> Result<Strip, Refusal>
 }
 
 // The line of the number n - i, if that divides n.
-fn put_line(k: u64, n: u64, i: u64, sizes: &Sizes, out: &mut [u8], at: usize) -> usize
-    requires { Summable k n sizes.now × (i < n) × (at + line ≤ length out.old) }
-    ensures { Adds out.old at (line_at (summand n sizes.now) n i) out.new result × (result ≤ at + line) }
+fn put_line(k: u64, n: u64, i: u64, sizes: &Sizes, text: &mut Text)
+    requires { Summable k n sizes.now × (i < n) × HasRoom text.old line }
+    ensures { Writes text.old (line_at (summand n sizes.now) n i) text.new × (text.new.end ≤ text.old.end + line) }
 {
     let d = n - i;
     if n % d != 0 {
-        return at;
+        return;
     }
     let term = moebius::term(n, d, sizes);
     let sum = moebius::divisor_sum(k, n, i + 1, sizes);
-    let divisor = texts::put_number(d, b' ', out, at);
-    let both = texts::put_signed(term, b' ', out, divisor);
-    texts::put_signed(sum, b'\n', out, both)
+    text.number(d, b' ');
+    text.signed(term, b' ');
+    text.signed(sum, b'\n');
 }
 
 // The lines of all divisors.
-fn put_sheet(s: Strip, word: &[u8], out: &mut [u8]) -> usize
-    requires { WordOn s word.now × (most ≤ length out.old) }
-    ensures { Adds out.old 0 (sheet s.k word.now) out.new result }
+fn put_sheet(s: Strip, word: &[u8], text: &mut Text)
+    requires { WordOn s word.now × HasRoom text.old most }
+    ensures { Writes text.old (sheet s.k word.now) text.new }
 {
     let sizes = ranks::sizes_of(s, word);
-    let mut filled = 0;
     for i in 0..s.n {
-        filled = put_line(s.k, s.n, i, &sizes, out, filled);
+        put_line(s.k, s.n, i, &sizes, text);
     }
-    filled
 }
 
 // The worksheet that an input asks for, and how long it is.
@@ -65,8 +65,10 @@ pub fn text(input: &[u8], out: &mut [u8]) -> usize
     requires { most ≤ length out.old }
     ensures { Adds out.old 0 (worksheet input.now) out.new result }
 {
+    let mut sheet = Text::from(out);
     match check(input) {
-        Ok(s) => put_sheet(s, &input[WORD..], out),
-        Err(refusal) => lines::put_refused(u8::from(refusal), out),
+        Ok(s) => put_sheet(s, &input[WORD..], &mut sheet),
+        Err(refusal) => lines::put_refused(u8::from(refusal), &mut sheet),
     }
+    sheet.end
 }

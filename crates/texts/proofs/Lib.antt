@@ -3,3 +3,4 @@ pub mod Decimals
 pub mod Signs
 pub mod Digits
 pub mod Adding
+pub mod Writing

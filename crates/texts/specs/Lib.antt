@@ -1,2 +1,3 @@
 -- Numbers, letters and lines as text.
 pub mod Texts
+pub mod Writers

@@ -7,8 +7,8 @@ use Rattle.listing.proofs.Openings.{section_starts}
 use Rattle.listing.proofs.Sections.{line-room, one_more, all_lines}
 use Rattle.listing.proofs.put_sections.Goals as goal
 
-pub put_section-filled-requires : goal.put_section-filled-requires
-put_section-filled-requires c =
+pub put_section-requires : goal.put_section-requires
+put_section-requires c =
     let plan = c.args.plan.now in (
       omega (arith, ap (λ x. x.offset) (rw c.of_accepted-sections.ensures at c.section_at.ensures), section_starts plan c.requires.0 c.loop-i.i (omega (arith, ap section_count c.of_accepted-sections.ensures))),
       line-room c.loop-i.invariant c.requires.1 (omega (arith, accepted_whole plan c.requires.0.faultless, ap section_count c.of_accepted-sections.ensures)) c.requires.2,
@@ -16,7 +16,7 @@ put_section-filled-requires c =
 
 pub loop-i-preserved : goal.loop-i-preserved
 loop-i-preserved c =
-    one_more c.loop-i.invariant c.put_section-filled.ensures.0 c.put_section-filled.ensures.1 c.put_section-filled.auto.out (rw c.of_accepted-sections.ensures at c.section_at.ensures) (omega (arith, sections_count c.args.plan.now, ap section_count c.of_accepted-sections.ensures))
+    one_more c.loop-i.invariant c.put_section.ensures.0 c.put_section.ensures.1 c.put_section.auto.out (rw c.of_accepted-sections.ensures at c.section_at.ensures) (omega (arith, sections_count c.args.plan.now, ap section_count c.of_accepted-sections.ensures))
 
 pub returns : goal.returns
 returns c = all_lines c.loop-i.invariant (omega (arith, sections_count c.args.plan.now, ap section_count c.of_accepted-sections.ensures))

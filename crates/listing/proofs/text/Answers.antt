@@ -1,7 +1,22 @@
 -- `listing::text`: the strip and the sections of an accepted plan.
-use Rattle.texts.proofs.Adding.{adds_as, adds_more}
+use mathlib.Core.Path.{◌≡◌}
+use Rattle.std.proofs.Common.{rules}
+use Rattle.texts.specs.Writers.{Writes}
+use Rattle.texts.proofs.Writing.{writes_as, writes_more}
+use Rattle.lines.specs.Lines.{refused_line}
+use Rattle.listing.specs.Listings.{listing}
 use Rattle.listing.proofs.Openings.{accepted_text}
 use Rattle.listing.proofs.text.Goals as goal
+use Rattle.listing.proofs.text.Goals.{in-Ok, in-Err}
 
-pub returns-in-Ok : goal.returns-in-Ok
-returns-in-Ok c = adds_as (adds_more c.put_strip-end.ensures.0 c.put_sections.ensures) (accepted_text c.args.plan.now c.in-Ok.ensures.accepted)
+pub returns : goal.returns
+returns c =
+    let plan = c.args.plan.now in
+    let written : Writes c.from-listing.result (listing plan) c.match-open.listing =
+    elim c.match-open.branch [
+      | in-Ok w ↦ rw w.listing-is (writes_as (writes_more w.put_strip.ensures.0 w.put_sections.ensures) (accepted_text plan w.in-Ok.ensures.accepted))
+      | in-Err w ↦
+          let text : refused_line w.from.result ≡ listing plan = search rules in
+          rw w.listing-is (writes_as w.put_refused.ensures text)
+    ] in
+    search rules

@@ -1,12 +1,24 @@
 -- `sheets::text`: the sheet of the word.
-use mathlib.Core.Path.{sym, ◌∙◌, ap}
-use Rattle.texts.proofs.Adding.{adds_as}
-use Rattle.sheets.specs.Worksheets.{word_in, sheet}
+use mathlib.Core.Path.{◌≡◌, sym, ◌∙◌, ap}
+use Rattle.std.proofs.Common.{rules}
+use Rattle.texts.specs.Writers.{Writes}
+use Rattle.texts.proofs.Writing.{writes_as}
+use Rattle.lines.specs.Lines.{refused_line}
+use Rattle.sheets.specs.Worksheets.{word_in, sheet, worksheet}
 use Rattle.sheets.proofs.Inputs.{behind, fine_sheet}
 use Rattle.sheets.proofs.text.Goals as goal
+use Rattle.sheets.proofs.text.Goals.{in-Ok, in-Err}
 
-pub returns-in-Ok : goal.returns-in-Ok
-returns-in-Ok c =
+pub returns : goal.returns
+returns c =
     let s = c.args.input.now in
-    let strip = c.in-Ok.ensures.strip in
-    adds_as c.put_sheet.ensures (ap (sheet c.in-Ok.s.k) (behind s) ∙ ap (λ k. sheet k (word_in s)) strip.1.0 ∙ sym (fine_sheet s strip.0))
+    let written : Writes c.from-sheet.result (worksheet s) c.match-check.sheet =
+    elim c.match-check.branch [
+      | in-Ok w ↦
+          let strip = w.in-Ok.ensures.strip in
+          rw w.sheet-is (writes_as w.put_sheet.ensures (ap (sheet w.in-Ok.s.k) (behind s) ∙ ap (λ k. sheet k (word_in s)) strip.1.0 ∙ sym (fine_sheet s strip.0)))
+      | in-Err w ↦
+          let text : refused_line w.from.result ≡ worksheet s = search rules in
+          rw w.sheet-is (writes_as w.put_refused.ensures text)
+    ] in
+    search rules

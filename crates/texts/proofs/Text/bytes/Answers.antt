@@ -1,0 +1,13 @@
+-- Bytes as they are.
+use mathlib.Core.Path.{refl}
+use Rattle.std.proofs.Common.{rules}
+use Rattle.std.proofs.lemmas.Slice.{overwrites}
+use Rattle.texts.proofs.Text.bytes.Goals as goal
+
+pub returns : goal.returns
+returns c =
+    record {
+      adds = record { ends = refl; stands = search (rules, overwrites); behind = search (rules, overwrites) };
+      whole = search (rules, overwrites);
+      same_buffer = refl;
+    }
