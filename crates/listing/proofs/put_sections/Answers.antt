@@ -16,7 +16,7 @@ put_section-requires c =
 
 pub loop-i-preserved : goal.loop-i-preserved
 loop-i-preserved c =
-    one_more c.loop-i.invariant c.put_section.ensures.0 c.put_section.ensures.1 c.put_section.auto.out (rw c.of_accepted-sections.ensures at c.section_at.ensures) (omega (arith, sections_count c.args.plan.now, ap section_count c.of_accepted-sections.ensures))
+    one_more c.loop-i.invariant c.put_section.ensures.0 c.put_section.ensures.1 (rw c.of_accepted-sections.ensures at c.section_at.ensures) (omega (arith, sections_count c.args.plan.now, ap section_count c.of_accepted-sections.ensures))
 
 pub returns : goal.returns
 returns c = all_lines c.loop-i.invariant (omega (arith, sections_count c.args.plan.now, ap section_count c.of_accepted-sections.ensures))
