@@ -51,6 +51,7 @@ pub fn open(plan: &[u8]) -> Result<Strip, Refusal>
 }
 
 // How many sections begin at a place or before it, by bisection: they are sorted.
+#[tactic(auto, using(theory::proofs::Records::sections_count))]
 fn begun(plan: &[u8], place: u64) -> u64
     requires { plan_fault plan.now ≡ 0 }
     ensures { Begun place (sections plan.now) result }
@@ -79,6 +80,7 @@ fn is_welded(section: Section, next: Section) -> bool
 
 // The section that the window at a place is laid in, if any. No section is shorter than a window, so one that crosses a welded joint ends in the next
 // section.
+#[tactic(auto, using(theory::proofs::Records::sections_count))]
 pub fn laying(plan: &[u8], place: u64) -> Option<u64>
     requires { (plan_fault plan.now ≡ 0) × (place < 2 ^ 60) }
     ensures { Lays plan.now place result }

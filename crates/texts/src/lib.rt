@@ -27,7 +27,7 @@ pub struct Text<'a> {
     pub end: usize,
 }
 
-// No text yet.
+// Over a buffer, with no text yet.
 impl<'a> From<&'a mut [u8]> for Text<'a> {
     fn from(out: &'a mut [u8]) -> Text<'a>
         ensures same_buffer { result.out.ghost_name ≡ out.entry.ghost_name }

@@ -1,9 +1,7 @@
 -- `listing::text`: the strip and the sections of an accepted plan.
-use mathlib.Core.Path.{◌≡◌}
 use Rattle.std.proofs.Common.{rules}
 use Rattle.texts.specs.Writers.{Writes}
 use Rattle.texts.proofs.Writing.{writes_as, writes_more}
-use Rattle.lines.specs.Lines.{refused_line}
 use Rattle.listing.specs.Listings.{listing}
 use Rattle.listing.proofs.Openings.{accepted_text}
 use Rattle.listing.proofs.text.Goals as goal
@@ -15,8 +13,6 @@ returns c =
     let written : Writes c.from-listing.result (listing plan) c.match-open.listing =
     elim c.match-open.branch [
       | in-Ok w ↦ rw w.listing-is (writes_as (writes_more w.put_strip.ensures.0 w.put_sections.ensures) (accepted_text plan w.in-Ok.ensures.accepted))
-      | in-Err w ↦
-          let text : refused_line w.from.result ≡ listing plan = search rules in
-          rw w.listing-is (writes_as w.put_refused.ensures text)
+      | in-Err w ↦ rw w.listing-is (writes_as w.put_refused.ensures (search rules))
     ] in
     search rules

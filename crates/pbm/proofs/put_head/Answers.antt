@@ -2,7 +2,6 @@
 use native.Mathlib.Omega.{arith}
 use lib.ListN.{length}
 use Rattle.std.proofs.Common.{rules}
-use Rattle.texts.specs.Texts.{Adds}
 use Rattle.texts.specs.Writers.{HasRoom}
 use Rattle.pbm.specs.Pictures.{head_text}
 use Rattle.pbm.proofs.Heads.{width_room, height_room, whole_head}
@@ -26,5 +25,4 @@ number-requires-2 c = height_room c.args.width c.args.height c.bytes.ensures (fi
 pub returns : goal.returns
 returns c =
     let w = whole_head c.args.width c.args.height c.bytes.ensures (fits (goal.at.returns c).After-from-text) c.number.ensures c.number-2.ensures in
-    let a : Adds c.args.out.now 0 (head_text c.args.width c.args.height) c.number-2.new.self.out.now c.number-2.new.self.end = search rules in
     search rules

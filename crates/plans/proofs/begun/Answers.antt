@@ -2,7 +2,6 @@ use Prim.Native.Nat.{◌≤◌}
 use mathlib.Core.Path.{◌≡◌, sym, ◌∙◌, ap, subst}
 use native.Mathlib.Omega.{arith}
 use Rattle.theory.specs.Plans.{section_count, sections}
-use Rattle.theory.proofs.Records.{sections_count}
 use Rattle.plans.specs.Begun.{Between}
 use Rattle.plans.proofs.Places.{anywhere, few, raise, lower}
 use Rattle.plans.proofs.begun.Goals.{In-loop-low}
@@ -18,9 +17,6 @@ few-left c = few c.args.plan.now c.requires c.args.place c.loop-low.invariant
 
 pub overflow_add-middle : goal.overflow_add-middle
 overflow_add-middle c = omega (arith, few-left (goal.at.overflow_add-middle c).In-loop-low)
-
-pub section_at-requires : goal.section_at-requires
-section_at-requires c = omega (arith, sections_count c.args.plan.now, c.loop-low.invariant.within, ap section_count c.of_accepted-sections.ensures)
 
 pub overflow_add-low : goal.overflow_add-low
 overflow_add-low c = omega (arith, few-left (goal.at.overflow_add-low c).In-loop-low)

@@ -1,8 +1,7 @@
 -- laying: only the last section that begins at the place or before it can hold the window's first letter.
-use mathlib.Core.Path.{sym, ◌∙◌, ap, subst}
+use mathlib.Core.Path.{sym, ◌∙◌, subst}
 use native.Mathlib.Omega.{arith}
-use Rattle.theory.specs.Plans.{section_count, sections}
-use Rattle.theory.proofs.Records.{sections_count}
+use Rattle.theory.specs.Plans.{sections}
 use Rattle.theory.proofs.Laying.{accepted_whole}
 use Rattle.sections.specs.Read.{section_of}
 use Rattle.plans.specs.Begun.{Begun}
@@ -13,10 +12,6 @@ use Rattle.plans.proofs.laying.Goals as goal
 pub returns-then-looked-eq0 : goal.returns-then-looked-eq0
 returns-then-looked-eq0 c =
     nowhere c.args.plan.now c.requires.0 c.args.place (subst (Begun c.args.place (sections c.args.plan.now)) c.if-looked-eq0.true c.begun-looked.ensures)
-
-pub section_at-section-requires : goal.section_at-section-requires
-section_at-section-requires c =
-    omega (arith, c.begun-looked.ensures.within, sections_count c.args.plan.now, ap section_count c.of_accepted-sections.ensures)
 
 -- the section that is looked at
 seen : (c : After-section_at-section)
@@ -41,11 +36,7 @@ returns-then-place-plan c =
 
 pub returns-then-looked-count : goal.returns-then-looked-count
 returns-then-looked-count c =
-    last c.args.plan.now c.requires.0 c.args.place (seen (goal.at.returns-then-looked-count c).After-section_at-section) c.if-place-plan.false (omega (arith, ap section_count c.of_accepted-sections.ensures))
-
-pub section_at-requires : goal.section_at-requires
-section_at-requires c =
-    omega (arith, c.begun-looked.ensures.within, sections_count c.args.plan.now, ap section_count c.of_accepted-sections.ensures)
+    last c.args.plan.now c.requires.0 c.args.place (seen (goal.at.returns-then-looked-count c).After-section_at-section) c.if-place-plan.false (grind (arith, c.of_accepted-sections.ensures))
 
 pub is_welded-requires : goal.is_welded-requires
 is_welded-requires c =
@@ -53,7 +44,7 @@ is_welded-requires c =
 
 pub returns-then-is_welded : goal.returns-then-is_welded
 returns-then-is_welded c =
-    across c.args.plan.now c.requires.0 c.args.place (seen (goal.at.returns-then-is_welded c).After-section_at-section) (rw c.of_accepted-sections.ensures at c.section_at.ensures) (omega arith) (λ z. omega (arith, z, ap section_count c.of_accepted-sections.ensures)) (sym c.is_welded.ensures ∙ c.if-is_welded.true) ∙ omega (arith, c.if-looked-eq0.false)
+    across c.args.plan.now c.requires.0 c.args.place (seen (goal.at.returns-then-is_welded c).After-section_at-section) (rw c.of_accepted-sections.ensures at c.section_at.ensures) (omega arith) (λ z. grind (arith, z, c.of_accepted-sections.ensures)) (sym c.is_welded.ensures ∙ c.if-is_welded.true) ∙ omega (arith, c.if-looked-eq0.false)
 
 pub returns : goal.returns
 returns c =

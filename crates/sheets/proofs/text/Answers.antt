@@ -1,9 +1,8 @@
 -- `sheets::text`: the sheet of the word.
-use mathlib.Core.Path.{◌≡◌, sym, ◌∙◌, ap}
+use mathlib.Core.Path.{sym, ◌∙◌, ap}
 use Rattle.std.proofs.Common.{rules}
 use Rattle.texts.specs.Writers.{Writes}
 use Rattle.texts.proofs.Writing.{writes_as}
-use Rattle.lines.specs.Lines.{refused_line}
 use Rattle.sheets.specs.Worksheets.{word_in, sheet, worksheet}
 use Rattle.sheets.proofs.Inputs.{behind, fine_sheet}
 use Rattle.sheets.proofs.text.Goals as goal
@@ -17,8 +16,6 @@ returns c =
       | in-Ok w ↦
           let strip = w.in-Ok.ensures.strip in
           rw w.sheet-is (writes_as w.put_sheet.ensures (ap (sheet w.in-Ok.s.k) (behind s) ∙ ap (λ k. sheet k (word_in s)) strip.1.0 ∙ sym (fine_sheet s strip.0)))
-      | in-Err w ↦
-          let text : refused_line w.from.result ≡ worksheet s = search rules in
-          rw w.sheet-is (writes_as w.put_refused.ensures text)
+      | in-Err w ↦ rw w.sheet-is (writes_as w.put_refused.ensures (search rules))
     ] in
     search rules
