@@ -1,11 +1,9 @@
 -- A power from the power with half the exponent, and what passes the limit 2^60.
-use mathlib.Core.Path.{◌≡◌, sym, ◌∙◌, ap, subst}
+use mathlib.Core.Path.{◌≡◌, ◌∙◌, ap, subst}
 use Prim.Native.Nat.{ℕ, zero, suc, ◌+◌, ◌*◌, ◌/◌, ◌%◌, ◌^◌, ◌≤◌, ◌<◌}
 use native.Mathlib.Omega.{arith}
 use native.Mathlib.Nat.{le_refl, lt_of_lt_of_le, div-add-mod', div-le_self, pow-zero, pow-suc, pow-le-pow_right, mul-le-mul, mul-lt-mul_of_pos_left, le-div_iff_mul-le, div-lt_iff_lt-mul, mul-zero, mul_comm}
-use native.Mathlib.Decide.{dec_le}
 use lib.Pow.{pow-add}
-use borrow.Author.Tests.{le-leb, lt-leb}
 
 -- k^n is the square of k^(n/2), for odd n times k
 pub even_power : (k n : ℕ) → n % 2 ≡ 0 → k ^ n ≡ k ^ (n / 2) * k ^ (n / 2)

@@ -4,6 +4,12 @@
 ghost use Rattle.std.specs.Prelude.{◌≡◌, ◌^◌, ◌≤◌, ◌<◌, true, MatchOption};
 ghost use Rattle.theory.specs.Strips.{admitted};
 
+pub mod ring;
+pub mod word;
+
+pub use ring::{Place, Ring};
+pub use word::Word;
+
 // A strip that is admitted: there is no other value of this type.
 #[derive(Clone, Copy)]
 pub struct Strip {

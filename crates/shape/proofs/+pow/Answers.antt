@@ -1,6 +1,6 @@
 -- `shape::pow` squares the power with half the exponent, for odd n times k.
 use mathlib.Core.Path.{◌≡◌, sym, ◌∙◌, ap, ap₂}
-use Prim.Native.Nat.{ℕ, ◌*◌, ◌/◌, ◌%◌, ◌^◌, ◌≤◌, ◌<◌}
+use Prim.Native.Nat.{ℕ, ◌*◌, ◌/◌, ◌%◌, ◌^◌}
 use native.Mathlib.Omega.{arith}
 use native.Mathlib.Nat.{mod-lt, zero-mul}
 use Rattle.shape.proofs.Powers.{even_power, odd_power, square_fits, product_large, product_fits, past_half, past_square}
