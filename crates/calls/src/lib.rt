@@ -1,15 +1,14 @@
 // What all calls share: the refusals, arguments that are checked before a call goes on, and numbers as answers.
 #![tactic(auto)]
 
-ghost use Rattle.std.specs.Prelude.{◌≡◌, IfOk};
+ghost use Rattle.std.specs.Prelude.{◌≡◌};
 ghost use Rattle.theory.specs.Strips.{strip_fault};
-ghost use Rattle.shape.specs.Shapes.{WordOn};
 ghost use Rattle.calls.specs.Codes.{number_of};
 ghost use Rattle.calls.specs.Refusals.{the_word_fault};
-ghost use Rattle.calls.specs.Checks.{Checks};
+ghost use Rattle.calls.specs.Checks.{Checks, ChecksWord};
 ghost use Rattle.calls.specs.Answers.{Number};
 
-use shape::Strip;
+use shape::{Strip, Word};
 
 pub mod refusal;
 
@@ -26,16 +25,15 @@ pub fn check_strip(k: u64, n: u64) -> Result<Strip, Refusal>
 }
 
 // And is it a word of n marks on it?
-pub fn check_word(k: u64, n: u64, word: &[u8]) -> Result<Strip, Refusal>
-    ensures strip { Checks (the_word_fault k n word.now) k n result }
-    ensures word { IfOk result (λ s. WordOn s word.now) }
+pub fn check_word(k: u64, n: u64, letters: &[u8]) -> Result<Word<'_>, Refusal>
+    ensures { ChecksWord (the_word_fault k n letters.now) k n letters.now result }
 {
     let strip = check_strip(k, n)?;
-    if word.len() as u64 != n {
+    if letters.len() as u64 != n {
         return Err(Refusal::WrongWindow);
     }
-    if lyndon::letters_below(k, word) {
-        return Ok(strip);
+    if lyndon::letters_below(k, letters) {
+        return Ok(Word { strip, letters });
     }
     Err(Refusal::BadMark)
 }
