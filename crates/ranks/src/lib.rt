@@ -8,11 +8,10 @@ ghost use Rattle.theory.specs.Lists.{Scratch};
 ghost use Rattle.theory.specs.Prenecklaces.{Prenecklace};
 ghost use Rattle.automaton.specs.Tables.{Sized};
 ghost use Rattle.moebius.specs.Summands.{Summable, Whole, total};
-ghost use Rattle.shape.specs.Shapes.{WordOn};
 
 use automaton::Table;
 use moebius::Sizes;
-use shape::Strip;
+use shape::{Strip, Word};
 
 // The sum over all divisors of n, divided by n. It is n times a number, so nothing is left.
 fn quotient(s: Strip, sizes: &Sizes) -> u64
@@ -25,36 +24,35 @@ fn quotient(s: Strip, sizes: &Sizes) -> u64
 }
 
 // The rank of a prenecklace: document 004's sum, by one table, which is lent as scratch.
-pub fn of_prenecklace(s: Strip, w: &[u8], t: &mut Table) -> u64
-    requires { WordOn s w.now × Prenecklace w.now }
-    ensures { (result ≡ rank s.k w.now) × Scratch t.old t.new }
+pub fn of_prenecklace(word: Word, t: &mut Table) -> u64
+    requires { Prenecklace word.letters.now }
+    ensures { (result ≡ rank word.entry.strip.k word.entry.letters.now) × Scratch t.old t.new }
 {
-    let sizes = automaton::sizes(s.k, w, t);
+    let s = word.strip;
+    let sizes = automaton::sizes(s.k, word.letters, t);
     quotient(s, &sizes)
 }
 
 // The sizes of CS that document 004's sum for any word asks for: those of the largest necklace not above it.
-pub fn sizes_of(s: Strip, w: &[u8]) -> Sizes
-    requires { WordOn s w.now }
-    ensures { Sized s.k (necklace_up_to s.k w.now) result }
+pub fn sizes_of(word: Word) -> Sizes
+    ensures { Sized word.entry.strip.k (necklace_up_to word.entry.strip.k word.entry.letters.now) result }
 {
-    let k = s.k;
-    let n = w.len();
+    let k = word.strip.k;
+    let n = word.letters.len();
     let mut room = [0u8; Strip::LONGEST];
     let v = &mut room[..n];
-    buffers::copy(w, v);
+    buffers::copy(word.letters, v);
     floors::floor(k, v);
     let mut t = [0u64; automaton::CELLS];
     automaton::sizes(k, v, &mut t)
 }
 
 // The rank of any word: that of the largest necklace not above it.
-pub fn of_word(s: Strip, w: &[u8]) -> u64
-    requires { WordOn s w.now }
-    ensures { result ≡ rank s.k w.now }
+pub fn of_word(word: Word) -> u64
+    ensures { result ≡ rank word.entry.strip.k word.entry.letters.now }
 {
-    let sizes = sizes_of(s, w);
-    quotient(s, &sizes)
+    let sizes = sizes_of(word);
+    quotient(word.strip, &sizes)
 }
 
 // The number of Lyndon words of length n.

@@ -12,14 +12,15 @@ use Rattle.ranks.proofs.of_prenecklace.Goals.{After-sizes-sizes}
 use Rattle.ranks.proofs.of_prenecklace.Goals as goal
 
 -- the sizes are there
-ranked : (c : After-sizes-sizes) → let a = c.args in total a.s.n c.sizes-sizes.result ≡ pos (a.s.n * rank a.s.k a.w.now)
+ranked : (c : After-sizes-sizes) → let a = c.args.word in total a.strip.n c.sizes-sizes.result ≡ pos (a.strip.n * rank a.strip.k a.letters.now)
 ranked c =
-    rank-sum c.args.s.k c.args.s.n c.args.w.now _ c.requires.0.long (limits c.args.s).some c.requires.1 c.sizes-sizes.ensures.0
+    let a = c.args.word in
+    rank-sum a.strip.k a.strip.n a.letters.now _ a.on.long (limits a.strip).some c.requires c.sizes-sizes.ensures.0
 
 pub quotient-requires : goal.quotient-requires
 quotient-requires c =
-    (sized_summable (limits c.args.s) c.sizes-sizes.ensures.0, (_, ranked (goal.at.quotient-requires c).After-sizes-sizes))
+    (sized_summable (limits c.args.word.strip) c.sizes-sizes.ensures.0, (_, ranked (goal.at.quotient-requires c).After-sizes-sizes))
 
 pub returns : goal.returns
 returns c =
-    (only c.args.s.n (limits c.args.s).some c.quotient.ensures (ranked (goal.at.returns c).After-sizes-sizes), record { size = search rules })
+    (only c.args.word.strip.n (limits c.args.word.strip).some c.quotient.ensures (ranked (goal.at.returns c).After-sizes-sizes), record { size = search rules })

@@ -7,8 +7,8 @@ use Rattle.ranks.proofs.of_word.Goals as goal
 
 pub quotient-requires : goal.quotient-requires
 quotient-requires c =
-    (sized_summable (limits c.args.s) c.sizes_of-sizes.ensures, (_, floored_sum c.requires c.sizes_of-sizes.ensures))
+    (sized_summable (limits c.args.word.strip) c.sizes_of-sizes.ensures, (_, floored_sum c.args.word.on c.sizes_of-sizes.ensures))
 
 pub returns : goal.returns
 returns c =
-    only c.args.s.n (limits c.args.s).some c.quotient.ensures (floored_sum c.requires c.sizes_of-sizes.ensures)
+    only c.args.word.strip.n (limits c.args.word.strip).some c.quotient.ensures (floored_sum c.args.word.on c.sizes_of-sizes.ensures)

@@ -21,29 +21,29 @@ short : {s : Strip} {w : List ℕ} → WordOn s w → length w ≤ 60
 short {s} h = omega (arith, h.long, (limits s).short)
 
 pub slice_bounds-room-end : goal.slice_bounds-room-end
-slice_bounds-room-end c = short c.requires
+slice_bounds-room-end c = short c.args.word.on
 
 pub slice_bounds-v-end : goal.slice_bounds-v-end
-slice_bounds-v-end c = sym (length-take-le {A = ℕ} _ (replicate 60 0) (short c.requires))
+slice_bounds-v-end c = sym (length-take-le {A = ℕ} _ (replicate 60 0) (short c.args.word.on))
 
 pub copy-requires : goal.copy-requires
-copy-requires c = omega (arith, length-take-le {A = ℕ} _ (replicate 60 0) (short c.requires))
+copy-requires c = omega (arith, length-take-le {A = ℕ} _ (replicate 60 0) (short c.args.word.on))
 
 -- after the copy: the buffer is the word
-same : (c : After-copy) → c.copy.new.out ≡ c.args.w.now
-same c = copied _ (replicate 60 0) (short c.requires) c.copy.ensures
+same : (c : After-copy) → c.copy.new.out ≡ c.args.word.letters.now
+same c = copied _ (replicate 60 0) (short c.args.word.on) c.copy.ensures
 
 pub floor-requires : goal.floor-requires
-floor-requires c = lettered c.requires (same (goal.at.floor-requires c).After-copy)
+floor-requires c = lettered c.args.word.on (same (goal.at.floor-requires c).After-copy)
 
 -- after it is lowered
-low : (c : After-floor) → let a = c.args in c.floor.new.w ≡ necklace_up_to a.s.k a.w.now
-low c = c.floor.ensures ∙ ap (necklace_up_to c.args.s.k) (copied _ (replicate 60 0) (short c.requires) c.copy.ensures)
+low : (c : After-floor) → let a = c.args in c.floor.new.w ≡ necklace_up_to a.word.strip.k a.word.letters.now
+low c = c.floor.ensures ∙ ap (necklace_up_to c.args.word.strip.k) (copied _ (replicate 60 0) (short c.args.word.on) c.copy.ensures)
 
 pub sizes-requires : goal.sizes-requires
 sizes-requires c =
-    subst (λ v. Counted c.args.s.k v × Prenecklace v) (sym (low (goal.at.sizes-requires c).After-floor)) (let (on, pre) = floored c.requires in (counted on, pre))
+    subst (λ v. Counted c.args.word.strip.k v × Prenecklace v) (sym (low (goal.at.sizes-requires c).After-floor)) (let (on, pre) = floored c.args.word.on in (counted on, pre))
 
 pub returns : goal.returns
 returns c =
-    subst (λ v. Sized c.args.s.k v c.sizes.result) (low (goal.at.returns c).After-floor) c.sizes.ensures.0
+    subst (λ v. Sized c.args.word.strip.k v c.sizes.result) (low (goal.at.returns c).After-floor) c.sizes.ensures.0
