@@ -9,12 +9,11 @@ ghost use Rattle.theory.specs.Shorts.{short_size};
 ghost use Rattle.theory.specs.Prenecklaces.{Prenecklace};
 ghost use Rattle.rings.specs.Moves.{HeldOn};
 ghost use Rattle.shape.specs.declared.Lengths.TheVariants.{Divisors, Whole};
-ghost use Rattle.shape.specs.Shapes.{WordOn};
 ghost use Rattle.shape.specs.Rings.{ok_of, size_in, letter_of, letters_of};
 ghost use Rattle.access.specs.Holders.{HoldsAt, PutAt, end_in};
 
 use search::Goal;
-use shape::{Lengths, Strip};
+use shape::{Lengths, Strip, Word};
 
 // The held word's length, and the position in it.
 #[derive(Clone, Copy)]
@@ -98,15 +97,16 @@ pub fn letters(lengths: Lengths, s: Strip, p: u64, out: &mut [u8])
     rings::write_from(lengths, s, v, spot.long, spot.at, out);
 }
 
-// Where the word whose power v is ends, by one table.
-fn end_of(lengths: Lengths, s: Strip, v: &[u8]) -> u64
-    requires { WordOn s v.now × Prenecklace v.now }
-    ensures { result ≡ end_in lengths s v.now }
+// Where the word ends of which this is the power, by one table.
+fn end_of(lengths: Lengths, power: Word) -> u64
+    requires { Prenecklace power.letters.now }
+    ensures { result ≡ end_in lengths power.entry.strip power.entry.letters.now }
 {
+    let s = power.strip;
     let mut t = [0u64; automaton::CELLS];
     match lengths {
-        Lengths::Divisors => automaton::whole(s.k, v, s.size, &mut t),
-        Lengths::Whole => s.n * ranks::of_prenecklace(s, v, &mut t),
+        Lengths::Divisors => automaton::whole(s.k, power.letters, s.size, &mut t),
+        Lengths::Whole => s.n * ranks::of_prenecklace(power, &mut t),
     }
 }
 
@@ -116,6 +116,10 @@ pub fn position(lengths: Lengths, s: Strip, v: &mut [u8], long: usize, at: usize
     ensures { (result ≡ position_in (ok_of lengths) (cursor s.k s.n (take long v.old) at)) × (v.new ≡ extension (length v.old) (take long v.old)) }
 {
     steps::extend(v, long);
-    let end = end_of(lengths, s, v);
+    let power = Word {
+        strip: s,
+        letters: v,
+    };
+    let end = end_of(lengths, power);
     end - long as u64 + at as u64
 }

@@ -4,10 +4,9 @@
 ghost use Rattle.std.specs.Prelude.{◌≡◌, ◌-◌, ◌≤◌, eqb, length};
 ghost use Rattle.theory.specs.Words.{pick};
 ghost use Rattle.theory.specs.Strips.{place_of};
-ghost use Rattle.shape.specs.Shapes.{WordOn};
 ghost use Rattle.locator.specs.Fits.{leading, first_fit, Based, base_of};
 
-use shape::{Lengths, Strip};
+use shape::{Lengths, Strip, Word};
 
 // The longest text that a window is matched against: a word and a window more.
 const TEXT: usize = 2 * Strip::LONGEST;
@@ -67,11 +66,12 @@ fn wrapped(s: Strip, lead: usize) -> u64
 }
 
 // The place of a window.
-pub fn place_of(s: Strip, w: &[u8]) -> u64
-    requires { WordOn s w.now }
-    ensures { result ≡ place_of s.k s.n w.now }
+pub fn place_of(window: Word) -> u64
+    ensures { result ≡ place_of window.entry.strip.k window.entry.strip.n window.entry.letters.now }
 {
+    let s = window.strip;
     let k = s.k;
+    let w = window.letters;
     let n = w.len();
     let lead = count_leading((k - 1) as u8, w);
     if lead + count_leading(0, &w[lead..]) == n {

@@ -4,11 +4,10 @@
 ghost use Rattle.std.specs.Prelude.{◌≡◌, ◌≤◌, ◌<◌, length};
 ghost use Rattle.theory.specs.Words.{up_to};
 ghost use Rattle.theory.specs.Prenecklaces.{Prenecklace};
-ghost use Rattle.shape.specs.Shapes.{WordOn};
 ghost use Rattle.search.specs.Goals.{Within, goal_word, Searching, Found, letter_back, period_with};
 
 use automaton::Table;
-use shape::Strip;
+use shape::{Strip, Word};
 
 // What is searched for: the Lyndon word of an index, or the necklace that holds a position.
 #[derive(Clone, Copy)]
@@ -17,16 +16,15 @@ pub enum Goal {
     Position(u64),
 }
 
-// Is w at or past the word searched for? By one table, as scratch.
-fn reaches(s: Strip, goal: Goal, w: &[u8], t: &mut Table) -> bool
-    requires { WordOn s w.now × Prenecklace w.now × Within s goal }
-    ensures { result ≡ up_to (goal_word s.k s.n goal) w.now }
+// Is a word at or past the one searched for? By one table, as scratch.
+fn reaches(word: Word, goal: Goal, t: &mut Table) -> bool
+    requires { Prenecklace word.letters.now × Within word.strip goal }
+    ensures { result ≡ up_to (goal_word word.entry.strip.k word.entry.strip.n goal) word.entry.letters.now }
 {
-    let k = s.k;
-    let size = s.size;
+    let s = word.strip;
     match goal {
-        Goal::Index(i) => i <= ranks::of_prenecklace(s, w, t),
-        Goal::Position(p) => p < automaton::whole(k, w, size, t),
+        Goal::Index(i) => i <= ranks::of_prenecklace(word, t),
+        Goal::Position(p) => p < automaton::whole(s.k, word.letters, s.size, t),
     }
 }
 
@@ -40,7 +38,11 @@ fn letter(s: Strip, goal: Goal, w: &mut [u8], j: usize, from: u8, t: &mut Table)
     while low < high {
         let mid = low + (high - low) / 2;
         w[j] = mid;
-        if reaches(s, goal, w, t) {
+        let tried = Word {
+            strip: s,
+            letters: w,
+        };
+        if reaches(tried, goal, t) {
             high = mid;
         } else {
             low = mid + 1;

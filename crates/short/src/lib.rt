@@ -4,24 +4,23 @@
 ghost use Rattle.std.specs.Prelude.{◌≡◌, IfOk, ◌*◌, ◌≤◌, eqb, ltb, length};
 ghost use Rattle.theory.specs.Words.{pick, root, how_many};
 ghost use Rattle.theory.specs.Shorts.{short_size, short_place_of};
-ghost use Rattle.shape.specs.Shapes.{WordOn};
 ghost use Rattle.calls.specs.Refusals.{short_window_fault};
-ghost use Rattle.calls.specs.Checks.{Checks};
+ghost use Rattle.calls.specs.Checks.{ChecksWord};
 ghost use Rattle.locator.specs.Fits.{cleared};
 
 use calls::Refusal;
-use shape::{Lengths, Strip};
+use shape::{Lengths, Strip, Word};
 
 // Is there such a strip, is it a word of n marks on it, and no shorter word repeated?
-pub fn check_window(k: u64, n: u64, window: &[u8]) -> Result<Strip, Refusal>
-    ensures strip { Checks (short_window_fault k n window.now) k n result }
-    ensures word { IfOk result (λ s. WordOn s window.now × (root window.now ≡ s.n)) }
+pub fn check_window(k: u64, n: u64, window: &[u8]) -> Result<Word<'_>, Refusal>
+    ensures word { ChecksWord (short_window_fault k n window.now) k n window.now result }
+    ensures primitive { IfOk result (λ x. root x.letters.now ≡ x.strip.n) }
 {
-    let strip = calls::check_word(k, n, window)?;
+    let word = calls::check_word(k, n, window)?;
     if (rotations::shortest_root(window) as u64) < n {
         return Err(Refusal::RepeatingWindow);
     }
-    Ok(strip)
+    Ok(word)
 }
 
 // The word whose rank tells the place. The window is α γ with γ α its smallest rotation, which v holds, and α its first `turn` letters. It is γ α, if
@@ -50,16 +49,18 @@ fn end_of(s: Strip, words: u64) -> u64
 
 // The place of a window that is no shorter word repeated: α ends where the words end that are not above γ α, or γ 0 .. 0; a window without α
 // begins where its own word does.
-pub fn place_of(s: Strip, w: &[u8]) -> u64
-    requires { WordOn s w.now × (root w.now ≡ s.n) }
-    ensures { result ≡ short_place_of s.k s.n w.now }
+pub fn place_of(window: Word) -> u64
+    requires { root window.letters.now ≡ window.strip.n }
+    ensures { result ≡ short_place_of window.entry.strip.k window.entry.strip.n window.entry.letters.now }
 {
+    let s = window.strip;
+    let w = window.letters;
     let n = w.len();
     let mut room = [0u8; Strip::LONGEST];
     let v = &mut room[..n];
     let turn = rotations::smallest(w, v);
     base(turn, locator::count_leading((s.k - 1) as u8, w), v);
-    let end = end_of(s, ranks::of_word(s, v));
+    let end = end_of(s, ranks::of_word(Word { strip: s, letters: v }));
     if turn == 0 {
         return end - s.n;
     }

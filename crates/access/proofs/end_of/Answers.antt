@@ -7,4 +7,4 @@ use Rattle.access.proofs.end_of.Goals as goal
 
 pub overflow_mul-result : goal.overflow_mul-result
 overflow_mul-result c =
-    omega (arith, words_fit c.args.s (rank-counted c.requires.0), ap (λ r. c.args.s.n * r) c.of_prenecklace.ensures.0)
+    omega (arith, words_fit c.args.power.strip (rank-counted c.args.power.on), ap (λ r. c.args.power.strip.n * r) c.of_prenecklace.ensures.0)

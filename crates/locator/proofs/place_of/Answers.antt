@@ -11,40 +11,40 @@ use Rattle.locator.proofs.place_of.Goals.{After-base, After-count_leading-lead, 
 use Rattle.locator.proofs.place_of.Goals as goal
 
 pub slice_bounds-count_leading-count : goal.slice_bounds-count_leading-count
-slice_bounds-count_leading-count c = let a = c.args in omega (arith, c.count_leading-lead.ensures, leading_length (a.s.k - 1) a.w.now)
+slice_bounds-count_leading-count c = let a = c.args in omega (arith, c.count_leading-lead.ensures, leading_length (a.window.strip.k - 1) a.window.letters.now)
 
 pub slice_bounds-count_leading-start : goal.slice_bounds-count_leading-start
 slice_bounds-count_leading-start c = omega (arith, slice_bounds-count_leading-count (goal.at.slice_bounds-count_leading-start c).After-count_leading-lead)
 
 pub overflow_add-lead : goal.overflow_add-lead
-overflow_add-lead c = omega (arith, counts_inside c.requires c.count_leading-lead.ensures c.count_leading.ensures, c.well_formed)
+overflow_add-lead c = omega (arith, counts_inside c.args.window.on c.count_leading-lead.ensures c.count_leading.ensures, c.well_formed)
 
 pub wrapped-requires : goal.wrapped-requires
 wrapped-requires c =
-    wrapped_inside c.requires c.count_leading-lead.ensures c.count_leading.ensures c.if-lead-count_leading.true
+    wrapped_inside c.args.window.on c.count_leading-lead.ensures c.count_leading.ensures c.if-lead-count_leading.true
 
 pub returns-then-lead-count_leading : goal.returns-then-lead-count_leading
 returns-then-lead-count_leading c =
     c.wrapped.ensures
-    ∙ wrapped_place c.requires c.count_leading-lead.ensures c.count_leading.ensures c.if-lead-count_leading.true
+    ∙ wrapped_place c.args.window.on c.count_leading-lead.ensures c.count_leading.ensures c.if-lead-count_leading.true
 
 pub base-requires : goal.base-requires
 base-requires c =
-    turn_based c.requires c.count_leading-lead.ensures c.count_leading.ensures c.if-lead-count_leading.false
-    c.smallest-turn.ensures.0 (rotated c.requires c.smallest-turn.ensures.1)
+    turn_based c.args.window.on c.count_leading-lead.ensures c.count_leading.ensures c.if-lead-count_leading.false
+    c.smallest-turn.ensures.0 (rotated c.args.window.on c.smallest-turn.ensures.1)
 
 -- after `base`: the word from which on the window is looked for
-located : (c : After-base) → let a = c.args in Located a.s.k a.s.n a.w.now c.smallest-turn.result c.base.new.v
+located : (c : After-base) → let a = c.args in Located a.window.strip.k a.window.strip.n a.window.letters.now c.smallest-turn.result c.base.new.v
 located c =
-    turn_located c.requires c.count_leading-lead.ensures c.count_leading.ensures c.if-lead-count_leading.false
-    c.smallest-turn.ensures.0 (rotated c.requires c.smallest-turn.ensures.1) c.base.ensures
+    turn_located c.args.window.on c.count_leading-lead.ensures c.count_leading.ensures c.if-lead-count_leading.false
+    c.smallest-turn.ensures.0 (rotated c.args.window.on c.smallest-turn.ensures.1) c.base.ensures
 
 pub whole-end-requires : goal.whole-end-requires
-whole-end-requires c = base_counted c.requires (located (goal.at.whole-end-requires c).After-base)
+whole-end-requires c = base_counted c.args.window.on (located (goal.at.whole-end-requires c).After-base)
 
 -- the word and as many letters as the window has fit the buffer
 pub slice_bounds-letters-end : goal.slice_bounds-letters-end
-slice_bounds-letters-end c = letters_short c.requires (located (goal.at.slice_bounds-letters-end c).After-base) c.shortest_root-long.ensures
+slice_bounds-letters-end c = letters_short c.args.window.on (located (goal.at.slice_bounds-letters-end c).After-base) c.shortest_root-long.ensures
 
 pub overflow_add-letters : goal.overflow_add-letters
 overflow_add-letters c = omega (arith, slice_bounds-letters-end (goal.at.overflow_add-letters c).After-shortest_root-long)
@@ -53,23 +53,23 @@ pub slice_bounds-text-end : goal.slice_bounds-text-end
 slice_bounds-text-end c = sym (length-take-le _ (replicate 120 0) (slice_bounds-letters-end (goal.at.slice_bounds-text-end c).After-shortest_root-long))
 
 pub write_from-requires : goal.write_from-requires
-write_from-requires c = word_held c.requires (located (goal.at.write_from-requires c).After-base) c.shortest_root-long.ensures
+write_from-requires c = word_held c.args.window.on (located (goal.at.write_from-requires c).After-base) c.shortest_root-long.ensures
 
 pub overflow_sub-result : goal.overflow_sub-result
 overflow_sub-result c =
-    word_inside c.requires (located (goal.at.overflow_sub-result c).After-base) c.shortest_root-long.ensures c.whole-end.ensures.0
+    word_inside c.args.window.on (located (goal.at.overflow_sub-result c).After-base) c.shortest_root-long.ensures c.whole-end.ensures.0
 
 pub first_fit-requires : goal.first_fit-requires
 first_fit-requires c =
-    text_room c.requires (located (goal.at.first_fit-requires c).After-base) c.shortest_root-long.ensures c.write_from.ensures.0
+    text_room c.args.window.on (located (goal.at.first_fit-requires c).After-base) c.shortest_root-long.ensures c.write_from.ensures.0
     (sym (slice_bounds-text-end (goal.at.first_fit-requires c).After-letters-1))
 
 -- at the end: the sum is the place, so it is small
 pub returns : goal.returns
 returns c =
-    text_place c.requires (located (goal.at.returns c).After-base) c.shortest_root-long.ensures c.write_from.ensures.0
+    text_place c.args.window.on (located (goal.at.returns c).After-base) c.shortest_root-long.ensures c.write_from.ensures.0
     (sym (slice_bounds-text-end (goal.at.returns c).After-letters-1)) c.whole-end.ensures.0 c.first_fit.ensures
 
 pub overflow_add-result : goal.overflow_add-result
 overflow_add-result c =
-    omega (arith, returns (goal.at.overflow_add-result c).After-text-2-1, place_small c.requires)
+    omega (arith, returns (goal.at.overflow_add-result c).After-text-2-1, place_small c.args.window.on)

@@ -3,7 +3,7 @@ use native.Mathlib.Omega.{arith}
 use Rattle.short.proofs.Refusing.{own_root}
 use Rattle.short.proofs.check_window.Goals as goal
 
-pub returns-clause-word : goal.returns-clause-word
-returns-clause-word c =
-    let word = c.in_ok-strip.ensures in
-    (word.word, own_root word.word (omega (arith, c.if-shortest_root-n.false, c.shortest_root.ensures, word.strip.1)))
+pub returns-clause-primitive : goal.returns-clause-primitive
+returns-clause-primitive c =
+    let word = c.in_ok-word.ensures in
+    own_root c.in_ok-word.value.on (omega (arith, c.if-shortest_root-n.false, c.shortest_root.ensures, word))

@@ -17,62 +17,57 @@ use Rattle.short.proofs.place_of.Goals.{After-base, After-end_of-end, After-room
 use Rattle.short.proofs.place_of.Goals as goal
 
 pub slice_bounds-room-end : goal.slice_bounds-room-end
-slice_bounds-room-end c = let on = c.requires.0 in omega (arith, on.long, (limits c.args.s).short)
+slice_bounds-room-end c = omega (arith, c.args.window.on.long, (limits c.args.window.strip).short)
 
 pub slice_bounds-v-end : goal.slice_bounds-v-end
-slice_bounds-v-end c = let on = c.requires.0 in sym (length-take-le _ (replicate 60 0) (omega (arith, on.long, (limits c.args.s).short)))
+slice_bounds-v-end c = sym (length-take-le _ (replicate 60 0) (omega (arith, c.args.window.on.long, (limits c.args.window.strip).short)))
 
 pub smallest-turn-requires : goal.smallest-turn-requires
 smallest-turn-requires c = omega (arith, slice_bounds-v-end (goal.at.smallest-turn-requires c).After-room-1)
 
 pub overflow_sub-s : goal.overflow_sub-s
-overflow_sub-s c = omega (arith, (limits c.args.s).two)
+overflow_sub-s c = omega (arith, (limits c.args.window.strip).two)
 
 pub overflow_cast-s : goal.overflow_cast-s
-overflow_cast-s c = omega (arith, (limits c.args.s).most)
+overflow_cast-s c = omega (arith, (limits c.args.window.strip).most)
 
 -- after `smallest`: the buffer holds the smallest rotation
-rotation : (c : After-smallest-turn) → c.smallest-turn.new.out ≡ smallest c.args.w.now
+rotation : (c : After-smallest-turn) → c.smallest-turn.new.out ≡ smallest c.args.window.letters.now
 rotation c =
-    let w = c.args.w.now in
-    c.smallest-turn.ensures.1 ∙ over-whole (smallest w) _ (smallest-length w ∙ sym (length-take-le _ (replicate 60 0) (let on = c.requires.0 in omega (arith, on.long, (limits c.args.s).short))))
+    let w = c.args.window.letters.now in
+    c.smallest-turn.ensures.1 ∙ over-whole (smallest w) _ (smallest-length w ∙ sym (length-take-le _ (replicate 60 0) (omega (arith, c.args.window.on.long, (limits c.args.window.strip).short))))
 
 pub base-requires : goal.base-requires
 base-requires c =
-    let (on, primitive) = c.requires in
-    let w = c.args.w.now in
-    omega (arith, turn_short on primitive c.smallest-turn.ensures.0, ap length (rotation (goal.at.base-requires c).After-smallest-turn), smallest-length w, on.long)
+    let w = c.args.window.letters.now in
+    omega (arith, turn_short c.args.window.on c.requires c.smallest-turn.ensures.0, ap length (rotation (goal.at.base-requires c).After-smallest-turn), smallest-length w, c.args.window.on.long)
 
-is_base : (c : After-base) → c.smallest-turn.new.out ≡ smallest c.args.w.now
-    → let w = c.args.w.now in
+is_base : (c : After-base) → c.smallest-turn.new.out ≡ smallest c.args.window.letters.now
+    → let w = c.args.window.letters.now in
     c.base.new.v ≡ pick (ltb c.count_leading.result c.smallest-turn.result) (smallest w) (cleared c.smallest-turn.result (smallest w))
 is_base c r =
     c.base.ensures ∙ ap (λ v. pick (ltb c.count_leading.result c.smallest-turn.result) v (cleared c.smallest-turn.result v)) r
 
 pub of_word-requires : goal.of_word-requires
 of_word-requires c =
-    let (on, primitive) = c.requires in
-    base_on on primitive c.smallest-turn.ensures.0 c.count_leading.ensures (is_base (goal.at.of_word-requires c).After-base (rotation (goal.at.of_word-requires c).After-smallest-turn))
+    base_on c.args.window.on c.requires c.smallest-turn.ensures.0 c.count_leading.ensures (is_base (goal.at.of_word-requires c).After-base (rotation (goal.at.of_word-requires c).After-smallest-turn))
 
 pub end_of-end-requires : goal.end_of-end-requires
 end_of-end-requires c =
-    let (on, primitive) = c.requires in
-    omega (arith, c.of_word.ensures, rank-counted (base_on on primitive c.smallest-turn.ensures.0 c.count_leading.ensures (is_base (goal.at.end_of-end-requires c).After-base (rotation (goal.at.end_of-end-requires c).After-smallest-turn))))
+    omega (arith, c.of_word.ensures, rank-counted (base_on c.args.window.on c.requires c.smallest-turn.ensures.0 c.count_leading.ensures (is_base (goal.at.end_of-end-requires c).After-base (rotation (goal.at.end_of-end-requires c).After-smallest-turn))))
 
-own : (c : After-end_of-end) (is : c.base.new.v ≡ pick (ltb c.count_leading.result c.smallest-turn.result) (smallest c.args.w.now) (cleared c.smallest-turn.result (smallest c.args.w.now)))
-    → let a = c.args in
-    c.smallest-turn.result ≡ 0 → short_place_of a.s.k a.s.n a.w.now + a.s.n ≡ c.end_of-end.result
+own : (c : After-end_of-end) (is : c.base.new.v ≡ pick (ltb c.count_leading.result c.smallest-turn.result) (smallest c.args.window.letters.now) (cleared c.smallest-turn.result (smallest c.args.window.letters.now)))
+    → let a = c.args.window in
+    c.smallest-turn.result ≡ 0 → short_place_of a.strip.k a.strip.n a.letters.now + a.strip.n ≡ c.end_of-end.result
 own c is =
-    let (on, primitive) = c.requires in
-    own_front on primitive c.smallest-turn.ensures.0 c.count_leading.ensures is c.of_word.ensures c.end_of-end.ensures
+    own_front c.args.window.on c.requires c.smallest-turn.ensures.0 c.count_leading.ensures is c.of_word.ensures c.end_of-end.ensures
 
-ends : (c : After-end_of-end) (is : c.base.new.v ≡ pick (ltb c.count_leading.result c.smallest-turn.result) (smallest c.args.w.now) (cleared c.smallest-turn.result (smallest c.args.w.now)))
-    → let a = c.args in
+ends : (c : After-end_of-end) (is : c.base.new.v ≡ pick (ltb c.count_leading.result c.smallest-turn.result) (smallest c.args.window.letters.now) (cleared c.smallest-turn.result (smallest c.args.window.letters.now)))
+    → let a = c.args.window in
     let turn = c.smallest-turn.result in
-    ¬ (turn ≡ 0) → short_place_of a.s.k a.s.n a.w.now + turn ≡ c.end_of-end.result
+    ¬ (turn ≡ 0) → short_place_of a.strip.k a.strip.n a.letters.now + turn ≡ c.end_of-end.result
 ends c is =
-    let (on, primitive) = c.requires in
-    first_end on primitive c.smallest-turn.ensures.0 c.count_leading.ensures is c.of_word.ensures c.end_of-end.ensures
+    first_end c.args.window.on c.requires c.smallest-turn.ensures.0 c.count_leading.ensures is c.of_word.ensures c.end_of-end.ensures
 
 pub overflow_sub-result : goal.overflow_sub-result
 overflow_sub-result c = omega (arith, own (goal.at.overflow_sub-result c).After-end_of-end (is_base (goal.at.overflow_sub-result c).After-base (rotation (goal.at.overflow_sub-result c).After-smallest-turn)) c.if-turn-eq0.true)
