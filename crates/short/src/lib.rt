@@ -12,12 +12,13 @@ use calls::Refusal;
 use shape::{Lengths, Strip, Word};
 
 // Is there such a strip, is it a word of n marks on it, and no shorter word repeated?
+#[tactic(auto, using(crate::proofs::Refusing::own_root))]
 pub fn check_window(k: u64, n: u64, window: &[u8]) -> Result<Word<'_>, Refusal>
     ensures word { ChecksWord (short_window_fault k n window.now) k n window.now result }
     ensures primitive { IfOk result (λ x. root x.letters.now ≡ x.strip.n) }
 {
     let word = calls::check_word(k, n, window)?;
-    if (rotations::shortest_root(window) as u64) < n {
+    if (rotations::shortest_root(word.letters) as u64) < n {
         return Err(Refusal::RepeatingWindow);
     }
     Ok(word)

@@ -48,9 +48,9 @@ is_base : (c : After-base) → c.smallest-turn.new.out ≡ smallest c.args.windo
 is_base c r =
     c.base.ensures ∙ ap (λ v. pick (ltb c.count_leading.result c.smallest-turn.result) v (cleared c.smallest-turn.result v)) r
 
-pub of_word-requires : goal.of_word-requires
-of_word-requires c =
-    base_on c.args.window.on c.requires c.smallest-turn.ensures.0 c.count_leading.ensures (is_base (goal.at.of_word-requires c).After-base (rotation (goal.at.of_word-requires c).After-smallest-turn))
+pub invariant_of-of_word : goal.invariant_of-of_word
+invariant_of-of_word c =
+    record { on = base_on c.args.window.on c.requires c.smallest-turn.ensures.0 c.count_leading.ensures (is_base (goal.at.invariant_of-of_word c).After-base (rotation (goal.at.invariant_of-of_word c).After-smallest-turn)) }
 
 pub end_of-end-requires : goal.end_of-end-requires
 end_of-end-requires c =
