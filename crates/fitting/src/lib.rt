@@ -6,7 +6,7 @@ ghost use Rattle.theory.specs.Strips.{place_of};
 ghost use Rattle.theory.specs.Erasures.{filling};
 ghost use Rattle.fitting.specs.Fits.{Sought, better_of, Finds};
 
-use shape::Strip;
+use shape::{Strip, Word};
 
 // The place of filling c, if it is below `best` and the window there is laid, else `best`. Once a laid one is known most are not below it, so the sections
 // are asked last.
@@ -18,7 +18,10 @@ fn better(plan: &[u8], s: Strip, w: &[u8], c: u64, best: u64) -> u64
     let mut room = [0u8; Strip::LONGEST];
     let v = &mut room[..w.len()];
     erasures::fill(s.k, c, w, v);
-    let place = locator::place_of(s, v);
+    let place = locator::place_of(Word {
+        strip: s,
+        letters: v,
+    });
     if place < best && plans::laying(plan, place).is_some() {
         return place;
     }

@@ -47,8 +47,8 @@ pub fn mark_at(k: u64, n: u64, place: u64, tray: &mut [u8]) -> Result<(), Refusa
 pub fn place_of(k: u64, n: u64, window: &[u8], tray: &mut [u8]) -> Result<(), Refusal>
     ensures { PlaceSays k n window.now tray.old tray.new (number_of result) }
 {
-    let strip = calls::check_word(k, n, window)?;
-    calls::give(locator::place_of(strip, window), tray)
+    let window = calls::check_word(k, n, window)?;
+    calls::give(locator::place_of(window), tray)
 }
 
 // The marks from a place on, as many as are asked for, in the tray's first bytes.
@@ -68,8 +68,8 @@ pub fn short_mark_at(k: u64, n: u64, place: u64, tray: &mut [u8]) -> Result<(), 
 pub fn short_place_of(k: u64, n: u64, window: &[u8], tray: &mut [u8]) -> Result<(), Refusal>
     ensures { ShortPlaceSays k n window.now tray.old tray.new (number_of result) }
 {
-    let strip = short::check_window(k, n, window)?;
-    calls::give(short::place_of(strip, window), tray)
+    let window = short::check_window(k, n, window)?;
+    calls::give(short::place_of(window), tray)
 }
 
 pub fn short_print_marks(

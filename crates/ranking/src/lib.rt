@@ -25,8 +25,8 @@ pub fn lyndon_count(k: u64, n: u64) -> Result<u64, Refusal>
 pub fn rank_of(k: u64, n: u64, word: &[u8], tray: &mut [u8]) -> Result<(), Refusal>
     ensures { RankSays k n word.now tray.old tray.new (number_of result) }
 {
-    let strip = calls::check_word(k, n, word)?;
-    calls::give(ranks::of_word(strip, word), tray)
+    let word = calls::check_word(k, n, word)?;
+    calls::give(ranks::of_word(word), tray)
 }
 
 // Has a Lyndon word that index?

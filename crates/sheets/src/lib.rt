@@ -3,17 +3,16 @@
 #![tactic(auto)]
 
 ghost use Rattle.std.specs.Prelude.{IfOk, ◌+◌, ◌≤◌, ◌<◌, length};
-ghost use Rattle.shape.specs.Shapes.{WordOn};
 ghost use Rattle.moebius.specs.Summands.{Summable, summand};
 ghost use Rattle.texts.specs.Texts.{Adds};
 ghost use Rattle.texts.specs.Writers.{HasRoom, Writes};
 ghost use Rattle.lines.specs.Lines.{line};
-ghost use Rattle.calls.specs.Checks.{Checks};
+ghost use Rattle.calls.specs.Checks.{ChecksWord};
 ghost use Rattle.sheets.specs.Worksheets.{letters, long, word_in, most, line_at, sheet, sheet_fault, worksheet};
 
 use calls::Refusal;
 use moebius::Sizes;
-use shape::Strip;
+use shape::{Strip, Word};
 use texts::Text;
 
 // Bytes that hold any worksheet: a word has at most 60 letters.
@@ -23,9 +22,8 @@ pub const MOST: usize = lines::LINE * Strip::LONGEST;
 const WORD: usize = 2;
 
 // Is there such a strip, and is the word one of n letters on it? Without n there is none.
-fn check(input: &[u8]) -> Result<Strip, Refusal>
-    ensures strip { Checks (sheet_fault input.now) (letters input.now) (long input.now) result }
-    ensures word { IfOk result (λ s. (2 ≤ length input.now) × WordOn s (word_in input.now)) }
+fn check(input: &[u8]) -> Result<Word<'_>, Refusal>
+    ensures { ChecksWord (sheet_fault input.now) (letters input.now) (long input.now) (word_in input.now) result }
 {
     if input.len() < WORD {
         return Err(Refusal::NoSuchStrip);
@@ -50,11 +48,12 @@ fn put_line(k: u64, n: u64, i: u64, sizes: &Sizes, text: &mut Text)
 }
 
 // The lines of all divisors.
-fn put_sheet(s: Strip, word: &[u8], text: &mut Text)
-    requires { WordOn s word.now × HasRoom text.old most }
-    ensures { Writes text.old (sheet s.k word.now) text.new }
+fn put_sheet(word: Word, text: &mut Text)
+    requires { HasRoom text.old most }
+    ensures { Writes text.old (sheet word.entry.strip.k word.entry.letters.now) text.new }
 {
-    let sizes = ranks::sizes_of(s, word);
+    let s = word.strip;
+    let sizes = ranks::sizes_of(word);
     for i in 0..s.n {
         put_line(s.k, s.n, i, &sizes, text);
     }
@@ -67,7 +66,7 @@ pub fn text(input: &[u8], out: &mut [u8]) -> usize
 {
     let mut sheet = Text::from(out);
     match check(input) {
-        Ok(s) => put_sheet(s, &input[WORD..], &mut sheet),
+        Ok(word) => put_sheet(word, &mut sheet),
         Err(refusal) => lines::put_refused(u8::from(refusal), &mut sheet),
     }
     sheet.end

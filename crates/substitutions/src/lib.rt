@@ -8,7 +8,7 @@ ghost use Rattle.shape.specs.Shapes.{WordOn};
 ghost use Rattle.plans.specs.Opened.{Accepted};
 ghost use Rattle.substitutions.specs.Entries.{Writes, Wrote};
 
-use shape::Strip;
+use shape::{Strip, Word};
 
 // Bytes of an entry: which mark in one, the new shade in one, the new window's place in 8; where this begins.
 pub const ENTRY: usize = 10;
@@ -35,7 +35,10 @@ impl Tried<'_> {
         let v = &mut room[..self.window.len()];
         buffers::copy(self.window, v);
         v[j] = a;
-        let place = locator::place_of(self.strip, v);
+        let place = locator::place_of(Word {
+            strip: self.strip,
+            letters: v,
+        });
         if plans::laying(self.plan, place).is_none() {
             return 0;
         }

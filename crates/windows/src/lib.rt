@@ -19,8 +19,8 @@ pub fn look(plan: &[u8], window: &[u8]) -> Result<Spot, Refusal>
     ensures { Looks plan.now window.now result }
 {
     let strip = plans::open(plan)?;
-    calls::check_word(strip.k, strip.n, window)?;
-    let place = locator::place_of(strip, window);
+    let word = calls::check_word(strip.k, strip.n, window)?;
+    let place = locator::place_of(word);
     let section = plans::laying(plan, place).ok_or(Refusal::NotLaid)?;
     Ok(Spot {
         strip,

@@ -8,9 +8,8 @@ use Rattle.fitting.proofs.Seeking.{filling_on_strip, spot, spot_small, not_lower
 use Rattle.fitting.proofs.better.Goals.{After-place_of-place, else-place-best-via-then-place-best+else-is_some, else-place-best-via-else-place-best}
 use Rattle.fitting.proofs.better.Goals as goal
 
-pub place_of-place-requires : goal.place_of-place-requires
-place_of-place-requires c =
-    subst (WordOn c.args.s) (sym c.fill.ensures) (filling_on_strip c.requires c.args.c)
+pub invariant_of-place_of : goal.invariant_of-place_of
+invariant_of-place_of c = record { on = subst (WordOn c.args.s) (sym c.fill.ensures) (filling_on_strip c.requires c.args.c) }
 
 place_is : (c : After-place_of-place) → let a = c.args in c.place_of-place.result ≡ spot a.s a.w.now a.c
 place_is c = let a = c.args in c.place_of-place.ensures ∙ ap (place_of a.s.k a.s.n) c.fill.ensures

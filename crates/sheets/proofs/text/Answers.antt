@@ -1,5 +1,5 @@
 -- `sheets::text`: the sheet of the word.
-use mathlib.Core.Path.{sym, ◌∙◌, ap}
+use mathlib.Core.Path.{sym, ◌∙◌, ap₂}
 use Rattle.std.proofs.Common.{rules}
 use Rattle.texts.specs.Writers.{Writes}
 use Rattle.texts.proofs.Writing.{writes_as}
@@ -14,8 +14,8 @@ returns c =
     let written : Writes c.from-sheet.result (worksheet s) c.match-check.sheet =
     elim c.match-check.branch [
       | in-Ok w ↦
-          let strip = w.in-Ok.ensures.strip in
-          rw w.sheet-is (writes_as w.put_sheet.ensures (ap (sheet w.in-Ok.s.k) (behind s) ∙ ap (λ k. sheet k (word_in s)) strip.1.0 ∙ sym (fine_sheet s strip.0)))
+          let checked = w.in-Ok.ensures in
+          rw w.sheet-is (writes_as w.put_sheet.ensures (ap₂ sheet checked.1.0 checked.2 ∙ sym (fine_sheet s checked.0)))
       | in-Err w ↦ rw w.sheet-is (writes_as w.put_refused.ensures (search rules))
     ] in
     search rules

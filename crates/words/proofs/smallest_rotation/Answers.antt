@@ -10,4 +10,4 @@ pub returns-then-tray-word : goal.returns-then-tray-word
 returns-then-tray-word c =
     let a = c.args in
     let w = a.word.now in
-    beside_small (least_turn w) (smallest w) a.tray.now c.in_ok-check_word.ensures.strip.0 (omega (arith, smallest-length w)) refl
+    beside_small (least_turn w) (smallest w) a.tray.now c.in_ok-check_word.ensures.0 (omega (arith, smallest-length w)) refl

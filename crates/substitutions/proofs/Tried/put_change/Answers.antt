@@ -21,11 +21,11 @@ copied c =
     let t = c.args.self.now in
     c.copy.ensures ∙ over-whole _ _ (sym (length-take-le _ (replicate 60 0) (omega (arith, t.word.long, (limits t.strip).short))))
 
-pub place_of-place-requires : goal.place_of-place-requires
-place_of-place-requires c =
+pub invariant_of-place_of : goal.invariant_of-place_of
+invariant_of-place_of c =
     let a = c.args in
     let t = a.self.now in
-    subst (λ v. WordOn t.strip (set v a.j a.a)) (sym (copied (goal.at.place_of-place-requires c).After-copy)) (changed_on_strip t.accepted t.word a.j c.requires.2)
+    record { on = subst (λ v. WordOn t.strip (set v a.j a.a)) (sym (copied (goal.at.invariant_of-place_of c).After-copy)) (changed_on_strip t.accepted t.word a.j c.requires.2) }
 
 -- and, with the letter, the window so changed
 place_is : (c : After-place_of-place) → let a = c.args in let t = a.self.now in c.place_of-place.result ≡ place_of t.strip.k t.strip.n (changed (change a.j a.a) t.window.now)
