@@ -17,9 +17,6 @@ pub overflow_cast-result : goal.overflow_cast-result
 overflow_cast-result c =
     cast_ok c.divisor_sum-sum.result c.args.s.n c.requires.1.0 (sum_is (goal.at.overflow_cast-result c).After-divisor_sum-sum ∙ c.requires.1.1) (record { sfits = c.divisor_sum-sum.type_inv })
 
-pub nonzero_div-result : goal.nonzero_div-result
-nonzero_div-result c = omega (arith, c.requires.0.some)
-
 pub returns : goal.returns
 returns c =
     part c.divisor_sum-sum.result c.args.s.n c.requires.1.0 (sum_is (goal.at.returns c).After-divisor_sum-sum ∙ c.requires.1.1) (record { sfits = c.divisor_sum-sum.type_inv }) (omega (arith, c.requires.0.some)) ∙ sum_is (goal.at.returns c).After-divisor_sum-sum

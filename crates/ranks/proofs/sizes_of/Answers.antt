@@ -6,13 +6,12 @@ use Prim.Native.Nat.{ℕ, ◌≤◌}
 use lib.ListN.{length, replicate}
 use Rattle.shape.specs.declared.Strip.{Strip}
 use Rattle.shape.specs.Shapes.{WordOn}
-use lib.Seq.{length-take-le}
 use Rattle.theory.specs.Floors.{necklace_up_to}
 use Rattle.theory.specs.Prenecklaces.{Prenecklace}
 use Rattle.shape.proofs.Limits.{limits}
-use Rattle.automaton.specs.Tables.{Counted, Sized}
+use Rattle.automaton.specs.Tables.{Counted}
 use Rattle.ranks.proofs.Shapes.{counted}
-use Rattle.ranks.proofs.Floored.{copied, lettered, floored}
+use Rattle.ranks.proofs.Floored.{copied, floored}
 use Rattle.ranks.proofs.sizes_of.Goals.{After-copy, After-floor}
 use Rattle.ranks.proofs.sizes_of.Goals as goal
 
@@ -20,21 +19,9 @@ use Rattle.ranks.proofs.sizes_of.Goals as goal
 short : {s : Strip} {w : List ℕ} → WordOn s w → length w ≤ 60
 short {s} h = omega (arith, h.long, (limits s).short)
 
-pub slice_bounds-room-end : goal.slice_bounds-room-end
-slice_bounds-room-end c = short c.args.word.on
-
-pub slice_bounds-v-end : goal.slice_bounds-v-end
-slice_bounds-v-end c = sym (length-take-le {A = ℕ} _ (replicate 60 0) (short c.args.word.on))
-
-pub copy-requires : goal.copy-requires
-copy-requires c = omega (arith, length-take-le {A = ℕ} _ (replicate 60 0) (short c.args.word.on))
-
 -- after the copy: the buffer is the word
 same : (c : After-copy) → c.copy.new.out ≡ c.args.word.letters.now
 same c = copied _ (replicate 60 0) (short c.args.word.on) c.copy.ensures
-
-pub floor-requires : goal.floor-requires
-floor-requires c = lettered c.args.word.on (same (goal.at.floor-requires c).After-copy)
 
 -- after it is lowered
 low : (c : After-floor) → let a = c.args in c.floor.new.w ≡ necklace_up_to a.word.strip.k a.word.letters.now
@@ -43,7 +30,3 @@ low c = c.floor.ensures ∙ ap (necklace_up_to c.args.word.strip.k) (copied _ (r
 pub sizes-requires : goal.sizes-requires
 sizes-requires c =
     subst (λ v. Counted c.args.word.strip.k v × Prenecklace v) (sym (low (goal.at.sizes-requires c).After-floor)) (let (on, pre) = floored c.args.word.on in (counted on, pre))
-
-pub returns : goal.returns
-returns c =
-    subst (λ v. Sized c.args.word.strip.k v c.sizes.result) (low (goal.at.returns c).After-floor) c.sizes.ensures.0

@@ -16,20 +16,8 @@ use Rattle.short.proofs.Placing.{turn_short, base_on, own_front, first_end}
 use Rattle.short.proofs.place_of.Goals.{After-base, After-end_of-end, After-room-1, After-smallest-turn}
 use Rattle.short.proofs.place_of.Goals as goal
 
-pub slice_bounds-room-end : goal.slice_bounds-room-end
-slice_bounds-room-end c = omega (arith, c.args.window.on.long, (limits c.args.window.strip).short)
-
 pub slice_bounds-v-end : goal.slice_bounds-v-end
 slice_bounds-v-end c = sym (length-take-le _ (replicate 60 0) (omega (arith, c.args.window.on.long, (limits c.args.window.strip).short)))
-
-pub smallest-turn-requires : goal.smallest-turn-requires
-smallest-turn-requires c = omega (arith, slice_bounds-v-end (goal.at.smallest-turn-requires c).After-room-1)
-
-pub overflow_sub-s : goal.overflow_sub-s
-overflow_sub-s c = omega (arith, (limits c.args.window.strip).two)
-
-pub overflow_cast-s : goal.overflow_cast-s
-overflow_cast-s c = omega (arith, (limits c.args.window.strip).most)
 
 -- after `smallest`: the buffer holds the smallest rotation
 rotation : (c : After-smallest-turn) → c.smallest-turn.new.out ≡ smallest c.args.window.letters.now
