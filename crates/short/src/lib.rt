@@ -10,7 +10,7 @@ ghost use Rattle.calls.specs.Checks.{Checks};
 ghost use Rattle.locator.specs.Fits.{cleared};
 
 use calls::Refusal;
-use shape::{Lengths, Strip};
+use shape::{Lengths, Ring, Strip};
 
 // Is there such a strip, is it a word of n marks on it, and no shorter word repeated?
 pub fn check_window(k: u64, n: u64, window: &[u8]) -> Result<Strip, Refusal>
@@ -43,7 +43,11 @@ fn end_of(s: Strip, words: u64) -> u64
     ensures { result ≡ pick (eqb words 0) (short_size s.k s.n) (s.n * words) }
 {
     if words == 0 {
-        return bounds::size(Lengths::Whole, s);
+        let ring = Ring {
+            lengths: Lengths::Whole,
+            strip: s,
+        };
+        return bounds::size(ring);
     }
     s.n * words
 }
