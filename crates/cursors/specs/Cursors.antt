@@ -7,10 +7,8 @@ use Rattle.theory.specs.Shorts.{short_ok, short_cursor_at, short_place_in, short
 use Rattle.shape.specs.declared.Lengths.{Lengths}
 use Rattle.shape.specs.Rings.{ok_of}
 use Rattle.shape.specs.declared.Strip as DH
-use Rattle.shape.specs.declared.ring.Ring as DR
 use Rattle.calls.specs.Refusals.{ring_fault, place_fault, short_place_fault}
 use Rattle.calls.specs.Answers.{ValueIs}
-use Rattle.calls.specs.Checks.{StripOf}
 use Rattle.calls.specs.declared.refusal.Refusal.{Refusal}
 use Rattle.calls.specs.Codes.{code}
 use Rattle.cursors.specs.declared.Cursor as DC
@@ -59,10 +57,6 @@ StartOn lengths k n p r = Starts (ring_fault lengths k n p) (cursor_on (ok_of le
 
 abbrev pub WhereOn : Lengths → DC.Cursor → Result ℕ Refusal → Type 0
 WhereOn lengths c r = ValueIs (fault_on lengths c) (position_in (ok_of lengths) (cursor_in c)) r
-
--- what the check of a cursor promises: its ring if there is no fault, else the fault's refusal
-abbrev pub ChecksCursor : Lengths → DC.Cursor → Result DR.Ring Refusal → Type 0
-ChecksCursor lengths c r = MatchResult r (λ x. (fault_on lengths c ≡ 0) × StripOf c.k c.n x.strip × (x.lengths ≡ lengths)) (λ e. code e ≡ fault_on lengths c)
 
 -- a cursor without fault, and the strip that is made of its k and n
 pub record GoodOn (lengths : Lengths) (s : DH.Strip) (c : DC.Cursor) : Type 0 where
