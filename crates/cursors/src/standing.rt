@@ -11,15 +11,15 @@ use shape::Ring;
 
 // A cursor without fault on a ring: there is no other value of this type.
 #[derive(Clone, Copy)]
-pub struct Standing {
-    pub ring: Ring,
-    pub cursor: Cursor,
-    pub ghost good: { GoodOn ring.lengths ring.strip cursor },
+pub(crate) struct Standing {
+    pub(crate) ring: Ring,
+    pub(crate) cursor: Cursor,
+    pub(crate) ghost good: { GoodOn ring.lengths ring.strip cursor },
 }
 
 impl Standing {
     // The place of the ring that it stands on.
-    pub fn place(self) -> u64
+    pub(crate) fn place(self) -> u64
         ensures { result ≡ position_in (ok_of self.ring.lengths) (cursor_in self.cursor) }
     {
         let c = self.cursor;
@@ -35,7 +35,7 @@ impl Standing {
 
     // To the next mark of the held word, or to the first of the ring's next word.
     // kept: on and back by two functions, as in rings.
-    pub fn onward(self) -> Stepped
+    pub(crate) fn onward(self) -> Stepped
         ensures { Goes (step_in (ok_of self.ring.lengths) (cursor_in self.cursor)) result }
     {
         let c = self.cursor;
@@ -64,7 +64,7 @@ impl Standing {
     }
 
     // To the mark before in the held word, or to the last of the ring's word before.
-    pub fn backward(self) -> Stepped
+    pub(crate) fn backward(self) -> Stepped
         ensures { Goes (back_in (ok_of self.ring.lengths) (cursor_in self.cursor)) result }
     {
         let c = self.cursor;
