@@ -17,7 +17,7 @@ import sys
 from pathlib import Path
 
 ROOT = Path(__file__).resolve().parent.parent
-HEAD = re.compile(r"^( *)(pub )?(?:extern +)?fn (\w+)", re.M)
+HEAD = re.compile(r"^( *)(pub )?(?:pub\(crate\) |extern +)?fn (\w+)", re.M)
 ANY_HEAD = re.compile(r"\bfn\s+\w+")
 LEAST_EDITS = 2
 BOUNDARY = "strip"

@@ -9,11 +9,12 @@ use Rattle.shape.specs.declared.Strip as DS
 use Rattle.shape.proofs.Limits.{limits}
 use Rattle.theory.specs.Rings.{cursor, position_in}
 use Rattle.shape.specs.declared.Lengths.{Lengths}
-use Rattle.shape.specs.Rings.{ok_of, size_in, letter_of, letters_of}
+use Rattle.shape.specs.declared.ring.Place as DP
+use Rattle.shape.specs.Rings.{ok_of, letter_of, letters_of}
 use Rattle.shape.proofs.Rings.{size_in_lem, cursors_of}
 use Rattle.rings.proofs.Moving.{held-length, held_in}
 use Rattle.rings.proofs.Printing.{word_read}
-use Rattle.access.specs.declared.Spot as DP
+use Rattle.access.specs.declared.Spot as DO
 use Rattle.access.specs.Holders.{HoldsAt}
 
 -- 60 bytes hold a word of the strip
@@ -23,13 +24,19 @@ room = replicate 60 0
 pub in_room : (s : DS.Strip) → length (take s.n room) ≡ s.n
 in_room s = length-take-le s.n room (omega (arith, (limits s).short))
 
-module _ {lengths : Lengths} {s : DS.Strip} (p : ℕ) {v : List ℕ} {r : DP.Spot} (l : p < size_in lengths s) (a : HoldsAt lengths s p v r) where
-  pub held_place : position_in (ok_of lengths) (cursor s.k s.n (take r.long v) r.at) ≡ p
+module _ (x : DP.Place) {v : List ℕ} {r : DO.Spot} (a : HoldsAt x.ring.lengths x.ring.strip x.at v r) where
+  abbrev lengths : Lengths
+  lengths = x.ring.lengths
+
+  abbrev s : DS.Strip
+  s = x.ring.strip
+
+  pub held_place : position_in (ok_of lengths) (cursor s.k s.n (take r.long v) r.at) ≡ x.at
   held_place =
       let t = limits s in
-      ap (position_in (ok_of lengths)) a.is ∙ ((cursors_of lengths).there s.k s.n p t.two t.some (subst (λ x. p < x) (size_in_lem lengths s) l)).1
+      ap (position_in (ok_of lengths)) a.is ∙ ((cursors_of lengths).there s.k s.n x.at t.two t.some (subst (λ m. x.at < m) (size_in_lem lengths s) x.on)).1
 
-  pub held_letter : get_or v r.at 0 ≡ letter_of lengths s.k s.n p
+  pub held_letter : get_or v r.at 0 ≡ letter_of lengths s.k s.n x.at
   held_letter =
       let t = limits s in
       let u : List ℕ = take r.long v in

@@ -9,11 +9,11 @@ ghost use Rattle.theory.specs.Shorts.{short_size};
 ghost use Rattle.theory.specs.Prenecklaces.{Prenecklace};
 ghost use Rattle.rings.specs.Moves.{HeldOn};
 ghost use Rattle.shape.specs.declared.Lengths.TheVariants.{Divisors, Whole};
-ghost use Rattle.shape.specs.Rings.{ok_of, size_in, letter_of, letters_of};
+ghost use Rattle.shape.specs.Rings.{ok_of, letter_of, letters_of};
 ghost use Rattle.access.specs.Holders.{HoldsAt, PutAt, end_in};
 
 use search::Goal;
-use shape::{Lengths, Strip, Word};
+use shape::{Lengths, Place, Ring, Strip, Word};
 
 // The held word's length, and the position in it.
 #[derive(Clone, Copy)]
@@ -53,48 +53,48 @@ fn short_holder(s: Strip, p: u64, v: &mut [u8]) -> Spot
 
 // kept: n bytes by a clause: n is known when it runs.
 // The word is put over the start of a buffer of n bytes; what stands behind it there is not promised.
-fn holder(lengths: Lengths, s: Strip, p: u64, v: &mut [u8]) -> Spot
-    requires { (p < size_in lengths s) × (length v.old ≡ s.n) }
-    ensures { HoldsAt lengths s p v.new result }
+fn holder(place: Place, v: &mut [u8]) -> Spot
+    requires { length v.old ≡ place.ring.strip.n }
+    ensures { HoldsAt place.ring.lengths place.ring.strip place.at v.new result }
 {
-    match lengths {
-        Lengths::Divisors => strip_holder(s, p, v),
-        Lengths::Whole => short_holder(s, p, v),
+    let s = place.ring.strip;
+    match place.ring.lengths {
+        Lengths::Divisors => strip_holder(s, place.at, v),
+        Lengths::Whole => short_holder(s, place.at, v),
     }
 }
 
 // The word that holds a place of the ring, over the start of a buffer; `room` is scratch.
-pub fn hold(lengths: Lengths, s: Strip, p: u64, room: &mut [u8], out: &mut [u8]) -> Spot
-    requires { (p < size_in lengths s) × (length room.old ≡ s.n) × (60 ≤ length out.old) }
-    ensures { PutAt lengths s p out.old out.new result × Scratch room.old room.new }
+pub fn hold(place: Place, room: &mut [u8], out: &mut [u8]) -> Spot
+    requires { (length room.old ≡ place.ring.strip.n) × (60 ≤ length out.old) }
+    ensures { PutAt place.ring.lengths place.ring.strip place.at out.old out.new result × Scratch room.old room.new }
 {
-    let spot = holder(lengths, s, p, room);
+    let spot = holder(place, room);
     let long = spot.long;
     buffers::copy(&room[..long], out);
     spot
 }
 
 // The letter at a position.
-pub fn letter(lengths: Lengths, s: Strip, p: u64) -> u8
-    requires { (p < size_in lengths s) }
-    ensures { result ≡ letter_of lengths s.k s.n p }
+#[tactic(auto, using(crate::proofs::Reading::held_letter))]
+pub fn letter(place: Place) -> u8
+    ensures { result ≡ letter_of place.ring.lengths place.ring.strip.k place.ring.strip.n place.at }
 {
     let mut room = [0u8; Strip::LONGEST];
-    let v = &mut room[..s.n as usize];
-    let spot = holder(lengths, s, p, v);
+    let v = &mut room[..place.ring.strip.n as usize];
+    let spot = holder(place, v);
     let at = spot.at;
     v[at]
 }
 
 // The letters from a position on, over the whole buffer.
-pub fn letters(lengths: Lengths, s: Strip, p: u64, out: &mut [u8])
-    requires { (p < size_in lengths s) }
-    ensures { out.new ≡ letters_of lengths s.k s.n p (length out.old) }
+pub fn letters(place: Place, out: &mut [u8])
+    ensures { out.new ≡ letters_of place.ring.lengths place.ring.strip.k place.ring.strip.n place.at (length out.old) }
 {
     let mut room = [0u8; Strip::LONGEST];
-    let v = &mut room[..s.n as usize];
-    let spot = holder(lengths, s, p, v);
-    rings::write_from(lengths, s, v, spot.long, spot.at, out);
+    let v = &mut room[..place.ring.strip.n as usize];
+    let spot = holder(place, v);
+    rings::write_from(place.ring, v, spot.long, spot.at, out);
 }
 
 // Where the word ends of which this is the power, by one table.
@@ -111,15 +111,15 @@ fn end_of(lengths: Lengths, power: Word) -> u64
 }
 
 // The position of letter `at` of the word in the first `long` letters. The word is repeated to the buffer's end.
-pub fn position(lengths: Lengths, s: Strip, v: &mut [u8], long: usize, at: usize) -> u64
-    requires { HeldOn lengths s v.old long × (at < long) }
-    ensures { (result ≡ position_in (ok_of lengths) (cursor s.k s.n (take long v.old) at)) × (v.new ≡ extension (length v.old) (take long v.old)) }
+pub fn position(ring: Ring, v: &mut [u8], long: usize, at: usize) -> u64
+    requires { HeldOn ring.lengths ring.strip v.old long × (at < long) }
+    ensures { (result ≡ position_in (ok_of ring.lengths) (cursor ring.strip.k ring.strip.n (take long v.old) at)) × (v.new ≡ extension (length v.old) (take long v.old)) }
 {
     steps::extend(v, long);
     let power = Word {
-        strip: s,
+        strip: ring.strip,
         letters: v,
     };
-    let end = end_of(lengths, power);
+    let end = end_of(ring.lengths, power);
     end - long as u64 + at as u64
 }

@@ -1,2 +1,3 @@
 -- What the cursor calls promise.
 pub mod Cursors
+pub mod Standing

@@ -2,14 +2,17 @@
 // steps along it from mark to mark, on or back. It does not say which ring: each call does.
 #![tactic(auto)]
 
-ghost use Rattle.std.specs.Prelude.{◌≡◌, ◌&&◌, ◌<◌};
-ghost use Rattle.theory.specs.Rings.{cursor_on, good_in, position_in, step_in, back_in};
-ghost use Rattle.shape.specs.Rings.{ok_of, size_in};
-ghost use Rattle.calls.specs.Checks.{Checks};
-ghost use Rattle.cursors.specs.Cursors.{cursor_in, tidy, Is, fault_on, GoodOn, Goes, StartOn, WhereOn, StepOn, BackOn, StartSays, WhereSays, StepSays, BackSays, ShortStartSays, ShortWhereSays, ShortStepSays, ShortBackSays};
+ghost use Rattle.std.specs.Prelude.{◌≡◌, ◌&&◌};
+ghost use Rattle.theory.specs.Rings.{cursor_on, good_in};
+ghost use Rattle.shape.specs.Rings.{ok_of};
+ghost use Rattle.cursors.specs.Cursors.{cursor_in, tidy, Is, StartOn, WhereOn, StepOn, BackOn, StartSays, WhereSays, StepSays, BackSays, ShortStartSays, ShortWhereSays, ShortStepSays, ShortBackSays};
+ghost use Rattle.cursors.specs.Standing.{ChecksCursor};
 
 use calls::Refusal;
-use shape::{Lengths, Strip};
+use shape::{Lengths, Place, Ring, Strip};
+use standing::Standing;
+
+mod standing;
 
 // The held word in the first `long` of 60 bytes with zeros after it; `place` is the place in it.
 #[derive(Clone, Copy, PartialEq, Eq)]
@@ -51,26 +54,29 @@ fn is_good(lengths: Lengths, c: Cursor) -> bool
     false
 }
 
-// The cursor's strip, or its fault on the ring.
-fn check(lengths: Lengths, c: Cursor) -> Result<Strip, Refusal>
-    ensures { Checks (fault_on lengths c) c.k c.n result }
+// The cursor on its ring, or its fault there.
+fn check(lengths: Lengths, c: Cursor) -> Result<Standing, Refusal>
+    ensures { ChecksCursor lengths c result }
 {
     let strip = calls::check_strip(c.k as u64, c.n as u64)?;
     if is_good(lengths, c) {
-        return Ok(strip);
+        return Ok(Standing {
+            ring: Ring { lengths, strip },
+            cursor: c,
+        });
     }
     Err(Refusal::LostCursor)
 }
 
-// The cursor at a place that is on the ring.
-fn start_at(lengths: Lengths, s: Strip, place: u64) -> Cursor
-    requires { place < size_in lengths s }
-    ensures { Is (cursor_on (ok_of lengths s.n) s.k s.n place) result }
+// The cursor at a place of a ring.
+fn start_at(place: Place) -> Cursor
+    ensures { Is (cursor_on (ok_of place.ring.lengths place.ring.strip.n) place.ring.strip.k place.ring.strip.n place.at) result }
 {
+    let s = place.ring.strip;
     let mut room = [0u8; Strip::LONGEST];
     let mut word = [0u8; Strip::LONGEST];
     let marks = s.n as usize;
-    let spot = access::hold(lengths, s, place, &mut room[..marks], &mut word);
+    let spot = access::hold(place, &mut room[..marks], &mut word);
     Cursor {
         k: s.k as u8,
         n: s.n as u8,
@@ -80,12 +86,11 @@ fn start_at(lengths: Lengths, s: Strip, place: u64) -> Cursor
     }
 }
 
-// The cursor at a place of a ring.
+// The cursor at any place, if it is on the ring.
 fn start_on(lengths: Lengths, k: u64, n: u64, place: u64) -> Result<Cursor, Refusal>
     ensures { StartOn lengths k n place result }
 {
-    let strip = bounds::check_place(lengths, k, n, place)?;
-    Ok(start_at(lengths, strip, place))
+    Ok(start_at(bounds::check_place(lengths, k, n, place)?))
 }
 
 // The cursor at a place of the strip.
@@ -102,28 +107,11 @@ pub fn short_start_cursor(k: u64, n: u64, place: u64) -> Result<Cursor, Refusal>
     start_on(Lengths::Whole, k, n, place)
 }
 
-// The place of the ring that a cursor without fault stands on.
-fn place_on(lengths: Lengths, s: Strip, c: Cursor) -> u64
-    requires { GoodOn lengths s c }
-    ensures { result ≡ position_in (ok_of lengths) (cursor_in c) }
-{
-    let mut word = c.word;
-    let marks = c.n as usize;
-    access::position(
-        lengths,
-        s,
-        &mut word[..marks],
-        c.long as usize,
-        c.place as usize,
-    )
-}
-
 // The place of the ring that any cursor stands on.
 fn where_on(lengths: Lengths, c: Cursor) -> Result<u64, Refusal>
     ensures { WhereOn lengths c result }
 {
-    let strip = check(lengths, c)?;
-    Ok(place_on(lengths, strip, c))
+    Ok(check(lengths, c)?.place())
 }
 
 // The place of the strip that the cursor stands on.
@@ -140,82 +128,18 @@ pub fn short_cursor_place(c: Cursor) -> Result<u64, Refusal>
     where_on(Lengths::Whole, c)
 }
 
-// To the next mark of the held word, or to the first of the ring's next word.
-// kept: on and back by two functions, as in rings; `GoodOn` as a clause: each that asks for it is called once, behind the check that shows it.
-fn onward(lengths: Lengths, s: Strip, c: Cursor) -> Stepped
-    requires { GoodOn lengths s c }
-    ensures { Goes (step_in (ok_of lengths) (cursor_in c)) result }
-{
-    let mut word = c.word;
-    let mark = word[c.place as usize];
-    let next = c.place + 1;
-    if next < c.long {
-        return Stepped {
-            mark,
-            passed: 0,
-            cursor: Cursor { place: next, ..c },
-        };
-    }
-    let marks = c.n as usize;
-    let moved = rings::next_word(lengths, s, &mut word[..marks], c.long as usize);
-    Stepped {
-        mark,
-        passed: moved.passed,
-        cursor: Cursor {
-            word,
-            long: moved.long as u8,
-            place: 0,
-            ..c
-        },
-    }
-}
-
-// To the mark before in the held word, or to the last of the ring's word before.
-fn backward(lengths: Lengths, s: Strip, c: Cursor) -> Stepped
-    requires { GoodOn lengths s c }
-    ensures { Goes (back_in (ok_of lengths) (cursor_in c)) result }
-{
-    let mut word = c.word;
-    let mark = word[c.place as usize];
-    if 0 < c.place {
-        return Stepped {
-            mark,
-            passed: 0,
-            cursor: Cursor {
-                place: c.place - 1,
-                ..c
-            },
-        };
-    }
-    let marks = c.n as usize;
-    let led = rings::previous_word(lengths, s, &mut word[..marks], c.long as usize);
-    let long = led.long as u8;
-    Stepped {
-        mark,
-        passed: led.passed,
-        cursor: Cursor {
-            word,
-            long,
-            place: long - 1,
-            ..c
-        },
-    }
-}
-
 // A step along the ring.
 fn step_on(lengths: Lengths, c: Cursor) -> Result<Stepped, Refusal>
     ensures { StepOn lengths c result }
 {
-    let strip = check(lengths, c)?;
-    Ok(onward(lengths, strip, c))
+    Ok(check(lengths, c)?.onward())
 }
 
 // A step back along the ring.
 fn back_on(lengths: Lengths, c: Cursor) -> Result<Stepped, Refusal>
     ensures { BackOn lengths c result }
 {
-    let strip = check(lengths, c)?;
-    Ok(backward(lengths, strip, c))
+    Ok(check(lengths, c)?.backward())
 }
 
 impl Cursor {

@@ -6,7 +6,7 @@ ghost use Rattle.theory.specs.Words.{pick};
 ghost use Rattle.theory.specs.Strips.{place_of};
 ghost use Rattle.locator.specs.Fits.{leading, first_fit, Based, base_of};
 
-use shape::{Lengths, Strip, Word};
+use shape::{Lengths, Ring, Strip, Word};
 
 // The longest text that a window is matched against: a word and a window more.
 const TEXT: usize = 2 * Strip::LONGEST;
@@ -86,6 +86,10 @@ pub fn place_of(window: Word) -> u64
     let long = rotations::shortest_root(v);
     let mut letters = [0u8; TEXT];
     let text = &mut letters[..long + n];
-    rings::write_from(Lengths::Divisors, s, v, long, 0, text);
+    let ring = Ring {
+        lengths: Lengths::Divisors,
+        strip: s,
+    };
+    rings::write_from(ring, v, long, 0, text);
     end - long as u64 + first_fit(text, w) as u64
 }

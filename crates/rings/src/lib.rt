@@ -8,7 +8,7 @@ ghost use Rattle.shape.specs.Rings.{ok_of, letters_of};
 ghost use Rattle.steps.specs.Steps.{padded};
 ghost use Rattle.rings.specs.Moves.{HeldOn, MovedIs, BackIs, first_word, last_word, clipped};
 
-use shape::{Lengths, Strip};
+use shape::{Lengths, Ring};
 
 // Does the ring join words of this length?
 fn allows(lengths: Lengths, n: u64, long: u64) -> bool
@@ -60,12 +60,13 @@ fn put_first(lengths: Lengths, w: &mut [u8]) -> usize
 }
 
 // The ring's last word, over zeros, and its length.
-fn put_last(lengths: Lengths, k: u64, w: &mut [u8]) -> usize
-    requires { (2 ≤ k) × (k ≤ 36) × (1 ≤ length w.old) × (w.old ≡ padded (length w.old) []) }
-    ensures { (w.new ≡ padded (length w.old) (last_word lengths k (length w.old))) × (result ≡ length (last_word lengths k (length w.old))) }
+fn put_last(ring: Ring, w: &mut [u8]) -> usize
+    requires { (1 ≤ length w.old) × (w.old ≡ padded (length w.old) []) }
+    ensures { (w.new ≡ padded (length w.old) (last_word ring.lengths ring.strip.k (length w.old))) × (result ≡ length (last_word ring.lengths ring.strip.k (length w.old))) }
 {
+    let k = ring.strip.k;
     let n = w.len();
-    match lengths {
+    match ring.lengths {
         Lengths::Divisors => {
             w[0] = (k - 1) as u8;
             1
@@ -83,48 +84,48 @@ fn put_last(lengths: Lengths, k: u64, w: &mut [u8]) -> usize
 // The ring's word after the one in the first `long` letters; the first after the last.
 // kept: on and back by two functions: one would take step, turn and promise from a trait, which is longer than both.
 // kept: a buffer and the length of its word, here and in steps and access: `Cursor` has its word so, and without a heap no slice grows.
-pub fn next_word(lengths: Lengths, s: Strip, w: &mut [u8], long: usize) -> Moved
-    requires { HeldOn lengths s w.old long }
-    ensures { MovedIs lengths s w.old long w.new result }
+pub fn next_word(ring: Ring, w: &mut [u8], long: usize) -> Moved
+    requires { HeldOn ring.lengths ring.strip w.old long }
+    ensures { MovedIs ring.lengths ring.strip w.old long w.new result }
 {
-    let k = s.k;
-    let n = s.n;
+    let k = ring.strip.k;
+    let n = ring.strip.n;
     let mut l = long;
     let mut passed = 0;
     loop {
         l = steps::next(k, w, l);
         if l == 0 {
             return Moved {
-                long: put_first(lengths, w),
+                long: put_first(ring.lengths, w),
                 passed: AROUND,
             };
         }
         passed += 1;
-        if allows(lengths, n, l as u64) {
+        if allows(ring.lengths, n, l as u64) {
             return Moved { long: l, passed };
         }
     }
 }
 
 // The ring's word before the one in the first `long` letters; the last before the first.
-pub fn previous_word(lengths: Lengths, s: Strip, w: &mut [u8], long: usize) -> Moved
-    requires { HeldOn lengths s w.old long }
-    ensures { BackIs lengths s w.old long w.new result }
+pub fn previous_word(ring: Ring, w: &mut [u8], long: usize) -> Moved
+    requires { HeldOn ring.lengths ring.strip w.old long }
+    ensures { BackIs ring.lengths ring.strip w.old long w.new result }
 {
-    let k = s.k;
-    let n = s.n;
+    let k = ring.strip.k;
+    let n = ring.strip.n;
     let mut m = long;
     let mut count = 0;
     loop {
         m = steps::previous(k, w, m);
         if m == 0 {
             return Moved {
-                long: put_last(lengths, k, w),
+                long: put_last(ring, w),
                 passed: AROUND,
             };
         }
         count += 1;
-        if allows(lengths, n, m as u64) {
+        if allows(ring.lengths, n, m as u64) {
             return Moved {
                 long: m,
                 passed: count,
@@ -143,16 +144,16 @@ fn put_word(word: &[u8], out: &mut [u8]) -> usize
 }
 
 // The ring's letters from letter `at` of the word in the first `long` letters on, over the whole buffer. The word's buffer is used up, as scratch.
-pub fn write_from(lengths: Lengths, s: Strip, w: &mut [u8], long: usize, at: usize, out: &mut [u8])
-    requires { HeldOn lengths s w.old long × (at < long) }
-    ensures { (out.new ≡ letters_of lengths s.k s.n (position_in (ok_of lengths) (cursor s.k s.n (take long w.old) at)) (length out.old)) × Scratch w.old w.new }
+pub fn write_from(ring: Ring, w: &mut [u8], long: usize, at: usize, out: &mut [u8])
+    requires { HeldOn ring.lengths ring.strip w.old long × (at < long) }
+    ensures { (out.new ≡ letters_of ring.lengths ring.strip.k ring.strip.n (position_in (ok_of ring.lengths) (cursor ring.strip.k ring.strip.n (take long w.old) at)) (length out.old)) × Scratch w.old w.new }
 {
     let mut l = long;
     let mut from = at;
     let mut filled = 0;
     while filled < out.len() {
         filled += put_word(&w[from..l], &mut out[filled..]);
-        l = next_word(lengths, s, w, l).long;
+        l = next_word(ring, w, l).long;
         from = 0;
     }
 }

@@ -9,7 +9,7 @@ ghost use Rattle.calls.specs.Checks.{ChecksWord};
 ghost use Rattle.locator.specs.Fits.{cleared};
 
 use calls::Refusal;
-use shape::{Lengths, Strip, Word};
+use shape::{Lengths, Ring, Strip, Word};
 
 // Is there such a strip, is it a word of n marks on it, and no shorter word repeated?
 #[tactic(auto, using(crate::proofs::Refusing::own_root))]
@@ -43,7 +43,11 @@ fn end_of(s: Strip, words: u64) -> u64
     ensures { result ≡ pick (eqb words 0) (short_size s.k s.n) (s.n * words) }
 {
     if words == 0 {
-        return bounds::size(Lengths::Whole, s);
+        let ring = Ring {
+            lengths: Lengths::Whole,
+            strip: s,
+        };
+        return bounds::size(ring);
     }
     s.n * words
 }

@@ -7,4 +7,4 @@ use Rattle.access.proofs.letters.Goals as goal
 
 pub returns : goal.returns
 returns c =
-    c.write_from.ensures.0 ∙ ap (λ p. letters_of c.args.lengths c.args.s.k c.args.s.n p (length c.args.out.now)) (held_place c.args.p c.requires c.holder-spot.ensures)
+    c.write_from.ensures.0 ∙ ap (λ p. letters_of c.args.place.ring.lengths c.args.place.ring.strip.k c.args.place.ring.strip.n p (length c.args.out.now)) (held_place c.args.place c.holder-spot.ensures)

@@ -10,8 +10,8 @@ use Rattle.bounds.proofs.size.Goals as goal
 
 pub overflow_mul-result : goal.overflow_mul-result
 overflow_mul-result c =
-    omega (arith, words_fit c.args.s (le_refl (how_many c.args.s.k c.args.s.n)), ap (λ r. c.args.s.n * r) c.count.ensures)
+    omega (arith, words_fit c.args.ring.strip (le_refl (how_many c.args.ring.strip.k c.args.ring.strip.n)), ap (λ r. c.args.ring.strip.n * r) c.count.ensures)
 
 pub returns-in-Whole : goal.returns-in-Whole
 returns-in-Whole c =
-    ap (λ r. c.args.s.n * r) c.count.ensures ∙ sym (ap (λ x. size_in x c.args.s) c.in-Whole.is)
+    ap (λ r. c.args.ring.strip.n * r) c.count.ensures ∙ sym (ap (λ x. size_in x c.args.ring.strip) c.in-Whole.is)

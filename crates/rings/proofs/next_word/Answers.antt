@@ -10,21 +10,20 @@ pub loop-l-init : goal.loop-l-init
 loop-l-init c = let h = c.requires in way_starts h (forth_on h)
 
 pub next-l-requires : goal.next-l-requires
-next-l-requires c = let h = c.requires in let r = limits c.args.s in asks (forth_on h) (held_in h) c.loop-l.invariant r.two r.most
+next-l-requires c = let h = c.requires in let r = limits c.args.ring.strip in asks (forth_on h) (held_in h) c.loop-l.invariant r.two r.most
 
 pub returns-then-l-eq0 : goal.returns-then-l-eq0
 returns-then-l-eq0 c =
     let h = c.requires in
-    let f = c.args in
     let g = c.loop-l.invariant in
-    let r = limits c.args.s in
-    wraps (forth_on h) (held_in h) g (next_put g c.next-l.ensures) (first_word f.lengths) c.if-l-eq0.true (first_of_lem f.lengths _ _ r.two r.some) c.put_first.ensures
+    let r = limits c.args.ring.strip in
+    wraps (forth_on h) (held_in h) g (next_put g c.next-l.ensures) (first_word c.args.ring.lengths) c.if-l-eq0.true (first_of_lem c.args.ring.lengths _ _ r.two r.some) c.put_first.ensures
 
 pub overflow_add-passed : goal.overflow_add-passed
 overflow_add-passed c =
     let h = c.requires in
     let g = c.loop-l.invariant in
-    omega (arith, (limits c.args.s).short, counts (forth_on h) (held_in h) g (next_put g c.next-l.ensures) c.if-l-eq0.false)
+    omega (arith, (limits c.args.ring.strip).short, counts (forth_on h) (held_in h) g (next_put g c.next-l.ensures) c.if-l-eq0.false)
 
 pub returns-then-allows : goal.returns-then-allows
 returns-then-allows c =

@@ -10,21 +10,20 @@ pub loop-m-init : goal.loop-m-init
 loop-m-init c = let h = c.requires in way_starts h (back_on_lem h)
 
 pub previous-m-requires : goal.previous-m-requires
-previous-m-requires c = let h = c.requires in let r = limits c.args.s in asks_back (back_on_lem h) (held_in h) c.loop-m.invariant r.two r.most
+previous-m-requires c = let h = c.requires in let r = limits c.args.ring.strip in asks_back (back_on_lem h) (held_in h) c.loop-m.invariant r.two r.most
 
 pub returns-then-m-eq0 : goal.returns-then-m-eq0
 returns-then-m-eq0 c =
     let h = c.requires in
-    let f = c.args in
     let g = c.loop-m.invariant in
-    let r = limits c.args.s in
-    wraps (back_on_lem h) (held_in h) g (previous_put g c.previous-m.ensures) (last_word f.lengths _) c.if-m-eq0.true (last_of_lem f.lengths _ _ r.two r.some) c.put_last.ensures
+    let r = limits c.args.ring.strip in
+    wraps (back_on_lem h) (held_in h) g (previous_put g c.previous-m.ensures) (last_word c.args.ring.lengths _) c.if-m-eq0.true (last_of_lem c.args.ring.lengths _ _ r.two r.some) c.put_last.ensures
 
 pub overflow_add-count : goal.overflow_add-count
 overflow_add-count c =
     let h = c.requires in
     let g = c.loop-m.invariant in
-    omega (arith, (limits c.args.s).short, counts (back_on_lem h) (held_in h) g (previous_put g c.previous-m.ensures) c.if-m-eq0.false)
+    omega (arith, (limits c.args.ring.strip).short, counts (back_on_lem h) (held_in h) g (previous_put g c.previous-m.ensures) c.if-m-eq0.false)
 
 pub returns-then-allows : goal.returns-then-allows
 returns-then-allows c =

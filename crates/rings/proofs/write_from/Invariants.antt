@@ -7,7 +7,7 @@ use Rattle.rings.proofs.Printing.{Printing}
 use Rattle.rings.proofs.write_from.Given as goal
 
 abbrev pub invariant-loop-filled : goal.invariant-loop-filled
-invariant-loop-filled l = Printing l.lengths l.s (position_in (ok_of l.lengths) (cursor l.s.k l.s.n (take l.long l.initial.w) l.at)) l.initial.out l.w l.out l.l l.from l.filled
+invariant-loop-filled l = Printing l.ring.lengths l.ring.strip (position_in (ok_of l.ring.lengths) (cursor l.ring.strip.k l.ring.strip.n (take l.long l.initial.w) l.at)) l.initial.out l.w l.out l.l l.from l.filled
 
 abbrev pub decreases-loop-filled : goal.decreases-loop-filled
 decreases-loop-filled l = length l.initial.out - l.filled

@@ -1,0 +1,2 @@
+-- What the check of a place answers.
+pub mod Places
