@@ -11,7 +11,7 @@ ghost use Rattle.lines.specs.Lines.{line};
 ghost use Rattle.listing.specs.Listings.{most, strip_line, section_line, section_lines, listing};
 
 use sections::{Plan, Section};
-use shape::{Lengths, Strip};
+use shape::{Lengths, Place, Ring, Strip};
 use texts::Text;
 
 // kept: a number for the clauses, here and in sheets: an array of so many bytes would not take a longer buffer, as text does.
@@ -39,7 +39,15 @@ fn put_section(s: Strip, i: u64, section: Section, text: &mut Text)
     text.number(section.long, b' ');
     let mut room = [0u8; Strip::LONGEST];
     let window = &mut room[..s.n as usize];
-    access::letters(Lengths::Divisors, s, section.offset, window);
+    let ring = Ring {
+        lengths: Lengths::Divisors,
+        strip: s,
+    };
+    let place = Place {
+        ring,
+        at: section.offset,
+    };
+    access::letters(place, window);
     text.letters(window);
     text.bytes(b"\n");
 }

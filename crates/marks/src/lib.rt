@@ -12,8 +12,8 @@ use shape::Lengths;
 fn mark_on(lengths: Lengths, k: u64, n: u64, place: u64, tray: &mut [u8]) -> Result<(), Refusal>
     ensures { MarkOn lengths k n place tray.old tray.new (number_of result) }
 {
-    let strip = bounds::check_place(lengths, k, n, place)?;
-    calls::give(u64::from(access::letter(lengths, strip, place)), tray)
+    let place = bounds::check_place(lengths, k, n, place)?;
+    calls::give(u64::from(access::letter(place)), tray)
 }
 
 // The marks of a ring from a place on, as many as are asked for, in the tray's first bytes.
@@ -27,12 +27,12 @@ fn print_on(
 ) -> Result<(), Refusal>
     ensures { PrintOn lengths k n place marks tray.old tray.new (number_of result) }
 {
-    let strip = bounds::check_place(lengths, k, n, place)?;
+    let place = bounds::check_place(lengths, k, n, place)?;
     if (tray.len() as u64) < marks {
         return Err(Refusal::TrayTooSmall);
     }
     let count = marks as usize;
-    access::letters(lengths, strip, place, &mut tray[..count]);
+    access::letters(place, &mut tray[..count]);
     Ok(())
 }
 

@@ -9,7 +9,7 @@ ghost use Rattle.texts.specs.Texts.{Adds};
 ghost use Rattle.pbm.specs.Pictures.{row_size, file_size, row_text, head_text, picture};
 ghost use Rattle.pbm.specs.Parts.{Frame, Drawable, Parted};
 
-use shape::{Lengths, Strip};
+use shape::{Lengths, Place, Ring, Strip};
 use texts::Text;
 
 // A line has so many digits.
@@ -63,7 +63,11 @@ fn put_row(s: Strip, place: u64, width: u64, out: &mut [u8])
     ensures { out.new ≡ row_text (marks_from s.k s.n place width) }
 {
     let lead = out.len() - width as usize;
-    access::letters(Lengths::Divisors, s, place, &mut out[lead..]);
+    let ring = Ring {
+        lengths: Lengths::Divisors,
+        strip: s,
+    };
+    access::letters(Place { ring, at: place }, &mut out[lead..]);
     spread(out, lead);
 }
 
