@@ -4,7 +4,7 @@ use Rattle.theory.specs.Words.{pick}
 use Rattle.theory.specs.Plans.{laid_at}
 use Rattle.theory.specs.Erasures.{fitting, lowest, smudge_fault}
 use Rattle.shape.specs.declared.Strip as DS
-use Rattle.plans.specs.Opened.{Accepted}
+use Rattle.plans.specs.Accepted.{Accepted}
 
 -- an accepted plan, laid on the strip, and a window without fault
 pub record Sought (s : List ℕ) (x : DS.Strip) (w : List ℕ) : Type 0 where

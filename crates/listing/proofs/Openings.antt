@@ -10,12 +10,12 @@ use Rattle.theory.proofs.Records.{sections_count}
 use Rattle.theory.proofs.Laying.{section_straight}
 use Rattle.shape.specs.declared.Strip as DS
 use Rattle.shape.proofs.Limits.{limits}
-use Rattle.plans.specs.Opened.{Accepted}
+use Rattle.plans.specs.Accepted.{Accepted}
 use Rattle.lines.specs.Lines.{refused_line}
 use Rattle.listing.specs.Listings.{strip_line, section_lines, listing}
 
 -- an accepted plan, with the strip that it is laid on
-module _ (s : List ℕ) {x : DS.Strip} (plan : Accepted s x) where
+module _ {s : List ℕ} {x : DS.Strip} (plan : Accepted s x) where
   pub section_starts : (i : ℕ) → i < section_count s → (nth_s (sections s) i).offset < x.size
   section_starts i h =
       let y = section_straight s plan.faultless i (omega (arith, sections_count s)) in

@@ -6,11 +6,11 @@ ghost use Rattle.theory.specs.Plans.{sections};
 ghost use Rattle.texts.specs.Texts.{Adds};
 ghost use Rattle.texts.specs.Writers.{HasRoom, Writes};
 ghost use Rattle.sections.specs.Read.{section_of};
-ghost use Rattle.plans.specs.Opened.{Accepted};
 ghost use Rattle.lines.specs.Lines.{line};
 ghost use Rattle.listing.specs.Listings.{most, strip_line, section_line, section_lines, listing};
 
-use sections::{Plan, Section};
+use plans::AcceptedPlan;
+use sections::Section;
 use shape::{Lengths, Place, Ring, Strip};
 use texts::Text;
 
@@ -52,14 +52,13 @@ fn put_section(s: Strip, i: u64, section: Section, text: &mut Text)
     text.bytes(b"\n");
 }
 
-// The sections of an accepted plan, one behind the other.
-fn put_sections(plan: &[u8], s: Strip, text: &mut Text)
-    requires { Accepted plan.now s × (text.old.end ≤ line) × (most ≤ length text.old.out.now) }
-    ensures { Writes text.old (section_lines s.k s.n 0 (sections plan.now)) text.new }
+// The sections of a plan, one behind the other.
+fn put_sections(plan: &AcceptedPlan, text: &mut Text)
+    requires { (text.old.end ≤ line) × (most ≤ length text.old.out.now) }
+    ensures { Writes text.old (section_lines plan.now.strip.k plan.now.strip.n 0 (sections plan.now.sections.bytes.now)) text.new }
 {
-    let sections = Plan::of_accepted(plan);
-    for i in 0..sections.count() {
-        put_section(s, i, sections.section_at(i), text);
+    for i in 0..plan.sections.count() {
+        put_section(plan.strip, i, plan.sections.section_at(i), text);
     }
 }
 
@@ -70,9 +69,9 @@ pub fn text(plan: &[u8], out: &mut [u8]) -> usize
 {
     let mut listing = Text::from(out);
     match plans::open(plan) {
-        Ok(s) => {
-            put_strip(s, &mut listing);
-            put_sections(plan, s, &mut listing);
+        Ok(accepted) => {
+            put_strip(accepted.strip, &mut listing);
+            put_sections(&accepted, &mut listing);
         }
         Err(refusal) => lines::put_refused(u8::from(refusal), &mut listing),
     }

@@ -7,7 +7,7 @@ ghost use Rattle.calls.specs.Answers.{Into};
 ghost use Rattle.lookups.specs.Says.{answer_at, LaidIn, PlanSays, LookupSays, SmudgedSays};
 
 use calls::Refusal;
-use sections::Plan;
+use plans::AcceptedPlan;
 
 // The answer's bytes: the section's number in 2, the distance in 8, the rail in 2; where the last two begin, and how many there are.
 const DISTANCE: usize = 2;
@@ -17,18 +17,17 @@ const RAIL: usize = 10;
 const ANSWER: usize = 12;
 
 // The answer for the window at a place, which is laid in a section, into the tray.
-fn give(plan: &[u8], place: u64, section: u64, tray: &mut [u8]) -> Result<(), Refusal>
-    requires { LaidIn plan.now place section }
-    ensures { Into 0 (answer_at plan.now place) tray.old tray.new (number_of result) }
+fn give(plan: &AcceptedPlan, place: u64, section: u64, tray: &mut [u8]) -> Result<(), Refusal>
+    requires { LaidIn plan.now.sections.bytes.now place section }
+    ensures { Into 0 (answer_at plan.now.sections.bytes.now place) tray.old tray.new (number_of result) }
 {
     if tray.len() < ANSWER {
         return Err(Refusal::TrayTooSmall);
     }
-    let sections = Plan::of_accepted(plan);
-    let distance = place - sections.section_at(section).offset;
+    let distance = place - plan.sections.section_at(section).offset;
     numbers::put16(section, tray);
     numbers::put64(distance, &mut tray[DISTANCE..]);
-    numbers::put16(sections.rail_of(section), &mut tray[RAIL..]);
+    numbers::put16(plan.sections.rail_of(section), &mut tray[RAIL..]);
     Ok(())
 }
 
@@ -45,16 +44,16 @@ pub fn look_up(plan: &[u8], window: &[u8], tray: &mut [u8]) -> Result<(), Refusa
     ensures { LookupSays plan.now window.now tray.old tray.new (number_of result) }
 {
     let spot = windows::look(plan, window)?;
-    give(plan, spot.place, spot.section, tray)
+    give(&spot.plan, spot.place, spot.section, tray)
 }
 
 // Section, distance and rail of the laid window of the lowest place that agrees at every mark that was read; byte 255 is one that was not, and there may be two.
 pub fn look_up_smudged(plan: &[u8], window: &[u8], tray: &mut [u8]) -> Result<(), Refusal>
     ensures { SmudgedSays plan.now window.now tray.old tray.new (number_of result) }
 {
-    let strip = plans::open(plan)?;
-    erasures::check_window(strip.k, strip.n, window)?;
-    let place = fitting::find(plan, strip, window).ok_or(Refusal::NotLaid)?;
-    let section = plans::laying(plan, place).unwrap();
-    give(plan, place, section, tray)
+    let accepted = plans::open(plan)?;
+    erasures::check_window(accepted.strip.k, accepted.strip.n, window)?;
+    let place = fitting::find(&accepted, window).ok_or(Refusal::NotLaid)?;
+    let section = accepted.laying(place).unwrap();
+    give(&accepted, place, section, tray)
 }

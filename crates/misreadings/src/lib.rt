@@ -16,7 +16,7 @@ pub fn misreadings(plan: &[u8], window: &[u8], tray: &mut [u8]) -> Result<u64, R
 {
     let spot = windows::look(plan, window)?;
     let mut room = [0u8; MOST];
-    let found = substitutions::put_list(plan, spot.strip, window, &mut room);
+    let found = substitutions::put_list(&spot.plan, window, &mut room);
     let size = substitutions::ENTRY * found;
     if tray.len() < size {
         return Err(Refusal::TrayTooSmall);

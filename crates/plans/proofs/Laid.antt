@@ -7,7 +7,7 @@ use native.Mathlib.Omega.{arith}
 use Rattle.std.specs.Prelude.{Option, Some, None}
 use Rattle.std.specs.Option.{is_some}
 use Rattle.theory.specs.Plans.{laying_at}
-use Rattle.plans.specs.Opened.{Lays}
+use Rattle.plans.specs.Accepted.{Lays}
 
 pub laid_some : (s : List ℕ) (p : ℕ) (r : Option ℕ) → Lays s p r → true ≡ is_some r → ¬ (laying_at s p ≡ 0)
 laid_some s p None h e = absurd (false≢true (sym e))

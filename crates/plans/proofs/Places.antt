@@ -6,23 +6,29 @@ use mathlib.Core.Logic.{⊎_elim}
 use Prim.Native.Nat.{ℕ, suc, ◌+◌, ◌-◌, ◌^◌, ◌≤◌, ◌<◌}
 use native.Mathlib.Omega.{arith}
 use lib.ListN.{length}
-use Rattle.theory.specs.Plans.{Section, end_of, shades, marks, section_count, sections, plan_fault, welded, laying_at, nth_s}
+use Rattle.theory.specs.Plans.{Section, end_of, marks, section_count, sections, plan_fault, welded, laying_at, nth_s}
 use Rattle.theory.specs.Theorems.{Across, Lies}
 use Rattle.theory.proofs.Base.{less, equal, more, cmp}
 use Rattle.theory.proofs.Records.{sections_count}
-use Rattle.theory.proofs.Laying.{plan_good, accepted_whole, section_straight, section_apart, lies_inside, lies_across, lies_laying, unlaid}
-use Rattle.shape.proofs.Limits.{admitted_limits}
+use Rattle.theory.proofs.Laying.{accepted_whole, section_straight, section_apart, lies_inside, lies_across, lies_laying, unlaid}
+use Rattle.shape.specs.declared.Strip as DS
+use Rattle.shape.proofs.Limits.{limits}
+use Rattle.plans.specs.Accepted.{Accepted}
 use Rattle.plans.specs.Begun.{Between, Begun}
 
 -- sections of an accepted plan
-module _ (s : List ℕ) (good : plan_fault s ≡ 0) where
+module _ {s : List ℕ} {strip : DS.Strip} (plan : Accepted s strip) where
+  good : plan_fault s ≡ 0
+  good = plan.faultless
+
   sorted : (i j : ℕ) → i ≤ j → j < length (sections s) → (nth_s (sections s) i).offset ≤ (nth_s (sections s) j).offset
   sorted i j h l =
       elim (cmp i j) [ less g ↦ omega (arith, section_apart s good i j g l) | equal g ↦ omega (arith, ap (λ m. (nth_s (sections s) m).offset) g) | more g ↦ absurd (omega arith) ]
 
   -- they end within the strip
   section_ends : (i : ℕ) → i < length (sections s) → end_of (nth_s (sections s) i) ≤ 2 ^ 60
-  section_ends i h = omega (arith, (admitted_limits (shades s) (marks s) (plan_good s good).1).range, (section_straight s good i h).ends)
+  section_ends i h =
+      omega (arith, (limits strip).range, ap₂ ◌^◌ plan.letters plan.marked, (section_straight s good i h).ends)
 
   -- what bisection knows of a place p
   module _ (p : ℕ) where
@@ -96,14 +102,14 @@ module _ (s : List ℕ) (good : plan_fault s ≡ 0) where
       pub passed : end_of x ≤ p → laying_at s p ≡ 0
       passed h = none (λ lies. omega (arith, lies.begins, ends))
 
-      pub whole : p + marks s ≤ end_of x → laying_at s p ≡ r
-      whole h = lies_laying s good (lies_inside s good starts (omega (arith, l.begun.within)) (omega (arith, ends))) ∙ sym l.all
+      pub whole : p + strip.n ≤ end_of x → laying_at s p ≡ r
+      whole h = lies_laying s good (lies_inside s good starts (omega (arith, l.begun.within)) (omega (arith, ends, plan.marked))) ∙ sym l.all
 
       -- the window goes on behind it, and there is no next section; or the next, y, is welded to it or is not
-      stops : end_of x < p + marks s → ¬ Across (sections s) i (p + marks s) → laying_at s p ≡ 0
-      stops longer not-across = none (λ lies. ⊎_elim (λ e. omega (arith, e, ends)) not-across lies.ends)
+      stops : end_of x < p + strip.n → ¬ Across (sections s) i (p + marks s) → laying_at s p ≡ 0
+      stops longer not-across = none (λ lies. ⊎_elim (λ e. omega (arith, e, ends, plan.marked)) not-across lies.ends)
 
-      pub last : end_of x < p + marks s → r ≡ section_count s → laying_at s p ≡ 0
+      pub last : end_of x < p + strip.n → r ≡ section_count s → laying_at s p ≡ 0
       last longer h = stops longer (λ a. omega (arith, a.0, h, l.all, sections_count s))
 
       module _ {y : Section} (is : y ≡ nth_s (sections s) r) where
@@ -114,5 +120,5 @@ module _ (s : List ℕ) (good : plan_fault s ≡ 0) where
         across begins h weld =
             lies_laying s good (lies_across s good starts (omega (arith, h, l.all, l.begun.within, sections_count s)) (sym joint ∙ weld) (omega (arith, ends))) ∙ sym l.all
 
-        pub parted : end_of x < p + marks s → welded x y ≡ false → laying_at s p ≡ 0
+        pub parted : end_of x < p + strip.n → welded x y ≡ false → laying_at s p ≡ 0
         parted longer h = stops longer (λ a. false≢true (sym h ∙ joint ∙ a.1))

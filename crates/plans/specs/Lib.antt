@@ -1,3 +1,4 @@
--- What opening a plan answers, and where a place stands among its sections.
+-- Which plans are accepted, what opening one answers, and where a place stands among its sections.
+pub mod Accepted
 pub mod Opened
 pub mod Begun

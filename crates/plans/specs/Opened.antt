@@ -1,19 +1,9 @@
--- What opening a plan answers: the strip that it is laid on, or the refusal of its fault (7, 1, 8); and the section that a place is laid in.
-use Rattle.std.specs.Prelude.{◌≡◌, ◌+◌, Option, MatchOption, Result, List, ℕ}
-use Rattle.theory.specs.Plans.{shades, marks, plan_fault, laying_at}
-use Rattle.shape.specs.declared.Strip as DS
+-- What opening a plan answers: the accepted plan of its bytes if there is no fault, else the fault's refusal (7, 1, 8).
+use Rattle.std.specs.Prelude.{◌≡◌, Result, MatchResult, List, ℕ}
+use Rattle.theory.specs.Plans.{plan_fault}
 use Rattle.calls.specs.declared.refusal.Refusal.{Refusal}
-use Rattle.calls.specs.Checks.{Checks}
+use Rattle.calls.specs.Codes.{code}
+use Rattle.plans.specs.declared.accepted.AcceptedPlan.{AcceptedPlan}
 
-abbrev pub Opens : List ℕ → Result DS.Strip Refusal → Type 0
-Opens s r = Checks (plan_fault s) (shades s) (marks s) r
-
--- an accepted plan: no fault, and the strip of its k and n
-pub record Accepted (s : List ℕ) (x : DS.Strip) : Type 0 where
-  pub faultless : plan_fault s ≡ 0
-  pub letters : x.k ≡ shades s
-  pub marked : x.n ≡ marks s
-
--- the section of the window at p, whose number the theory counts from 1; none, if it is not laid
-abbrev pub Lays : List ℕ → ℕ → Option ℕ → Type 0
-Lays s p r = MatchOption r (laying_at s p ≡ 0) (λ i. laying_at s p ≡ i + 1)
+abbrev pub Opens : List ℕ → Result AcceptedPlan Refusal → Type 0
+Opens s r = MatchResult r (λ a. (plan_fault s ≡ 0) × (a.sections.bytes.now ≡ s)) (λ e. code e ≡ plan_fault s)

@@ -2,7 +2,7 @@
 #![tactic(auto)]
 
 ghost use Rattle.std.specs.Prelude.{◌≡◌, true, false, ◌<◌, List, MatchOption, drop};
-ghost use Rattle.theory.specs.Plans.{Section, torn, plan_fault, sections, section_count, entry_size, nth_s, rail_of};
+ghost use Rattle.theory.specs.Plans.{Section, torn, sections, section_count, entry_size, nth_s, rail_of};
 ghost use Rattle.std.specs.Iterator.{YieldsFirstBy, item_count};
 ghost use Rattle.sections.specs.Read.{section_of};
 
@@ -54,15 +54,6 @@ impl<'a> Plan<'a> {
             return None;
         }
         Some(Plan { bytes })
-    }
-
-    // The plan of bytes that are known to be accepted; nothing is tested again.
-    #[tactic(auto, using(theory::proofs::Laying::plan_good))]
-    pub fn of_accepted(bytes: &'a [u8]) -> Plan<'a>
-        requires { plan_fault bytes.now ≡ 0 }
-        ensures { result.bytes.now ≡ bytes.now }
-    {
-        Plan { bytes }
     }
 
     // How many sections it has.

@@ -17,7 +17,7 @@ use Rattle.buffers.proofs.Bytes.{handed_on}
 use Rattle.numbers.specs.Numbers.{put_be}
 use Rattle.shape.specs.declared.Strip as DS
 use Rattle.shape.specs.Shapes.{WordOn}
-use Rattle.plans.specs.Opened.{Accepted}
+use Rattle.plans.specs.Accepted.{Accepted}
 use Rattle.locator.proofs.Locates.{place_small}
 use Rattle.substitutions.specs.Entries.{Wrote}
 

@@ -6,7 +6,7 @@ use Rattle.buffers.specs.Buffers.{over}
 use Rattle.numbers.specs.Numbers.{put_be}
 use Rattle.shape.specs.declared.Strip as DS
 use Rattle.shape.specs.Shapes.{WordOn}
-use Rattle.plans.specs.Opened.{Accepted}
+use Rattle.plans.specs.Accepted.{Accepted}
 
 -- an entry: which letter, the new letter, the new window's place in 8 bytes
 abbrev pub entry_bytes : List ℕ → List ℕ → Change → List ℕ

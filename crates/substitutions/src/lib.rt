@@ -5,9 +5,9 @@
 ghost use Rattle.std.specs.Prelude.{[], ◌∷◌, ◌*◌, ◌<◌, ◌≤◌, length, get_or};
 ghost use Rattle.theory.specs.Substitutions.{change, changes_down, changes_up, changes_at, changes_for, changes};
 ghost use Rattle.shape.specs.Shapes.{WordOn};
-ghost use Rattle.plans.specs.Opened.{Accepted};
 ghost use Rattle.substitutions.specs.Entries.{Writes, Wrote};
 
+use plans::AcceptedPlan;
 use shape::{Strip, Word};
 
 // Bytes of an entry: which mark in one, the new shade in one, the new window's place in 8; where this begins.
@@ -15,31 +15,29 @@ pub const ENTRY: usize = 10;
 
 const PLACE: usize = 2;
 
-// A window whose changes are tried, on the strip of an accepted plan.
+// A window whose changes are tried, on the strip of a plan.
 #[derive(Drop)]
 struct Tried<'a> {
-    plan: &'a [u8],
-    strip: Strip,
+    plan: AcceptedPlan<'a>,
     window: &'a [u8],
-    ghost accepted: { Accepted plan.now strip },
-    ghost word: { WordOn strip window.now },
+    ghost word: { WordOn plan.strip window.now },
 }
 
 impl Tried<'_> {
     // Mark j changed to a.
     fn put_change(&self, j: usize, a: u8, out: &mut [u8]) -> usize
-        requires { (10 ≤ length out.old) × (j < length self.now.window.now) × (a < self.now.strip.k) }
-        ensures { Wrote self.now.plan.now self.now.window.now (change j a ∷ []) out.old out.new result }
+        requires { (10 ≤ length out.old) × (j < length self.now.window.now) × (a < self.now.plan.strip.k) }
+        ensures { Wrote self.now.plan.sections.bytes.now self.now.window.now (change j a ∷ []) out.old out.new result }
     {
         let mut room = [0u8; Strip::LONGEST];
         let v = &mut room[..self.window.len()];
         buffers::copy(self.window, v);
         v[j] = a;
         let place = locator::place_of(Word {
-            strip: self.strip,
+            strip: self.plan.strip,
             letters: v,
         });
-        if plans::laying(self.plan, place).is_none() {
+        if self.plan.laying(place).is_none() {
             return 0;
         }
         out[0] = j as u8;
@@ -51,7 +49,7 @@ impl Tried<'_> {
     // Mark j lowered by d, if it is not below d.
     fn put_down(&self, d: u64, j: usize, out: &mut [u8]) -> usize
         requires { (10 * length (changes_down d j (get_or self.now.window.now j 0)) ≤ length out.old) × (j < length self.now.window.now) }
-        ensures { Wrote self.now.plan.now self.now.window.now (changes_down d j (get_or self.now.window.now j 0)) out.old out.new result }
+        ensures { Wrote self.now.plan.sections.bytes.now self.now.window.now (changes_down d j (get_or self.now.window.now j 0)) out.old out.new result }
     {
         let a = u64::from(self.window[j]);
         if a < d {
@@ -62,11 +60,11 @@ impl Tried<'_> {
 
     // Mark j raised by d, if that is a shade.
     fn put_up(&self, d: u64, j: usize, out: &mut [u8]) -> usize
-        requires { (10 * length (changes_up self.now.strip.k d j (get_or self.now.window.now j 0)) ≤ length out.old) × (j < length self.now.window.now) × (d < self.now.strip.k) }
-        ensures { Wrote self.now.plan.now self.now.window.now (changes_up self.now.strip.k d j (get_or self.now.window.now j 0)) out.old out.new result }
+        requires { (10 * length (changes_up self.now.plan.strip.k d j (get_or self.now.window.now j 0)) ≤ length out.old) × (j < length self.now.window.now) × (d < self.now.plan.strip.k) }
+        ensures { Wrote self.now.plan.sections.bytes.now self.now.window.now (changes_up self.now.plan.strip.k d j (get_or self.now.window.now j 0)) out.old out.new result }
     {
         let a = u64::from(self.window[j]) + d;
-        if self.strip.k <= a {
+        if self.plan.strip.k <= a {
             return 0;
         }
         self.put_change(j, a as u8, out)
@@ -74,8 +72,8 @@ impl Tried<'_> {
 
     // Mark j changed by d, the lower new shade first.
     fn put_mark(&self, d: u64, j: usize, out: &mut [u8]) -> usize
-        requires { (10 * length (changes_at self.now.strip.k self.now.window.now d j) ≤ length out.old) × (j < length self.now.window.now) × (d < self.now.strip.k) }
-        ensures { Wrote self.now.plan.now self.now.window.now (changes_at self.now.strip.k self.now.window.now d j) out.old out.new result }
+        requires { (10 * length (changes_at self.now.plan.strip.k self.now.window.now d j) ≤ length out.old) × (j < length self.now.window.now) × (d < self.now.plan.strip.k) }
+        ensures { Wrote self.now.plan.sections.bytes.now self.now.window.now (changes_at self.now.plan.strip.k self.now.window.now d j) out.old out.new result }
     {
         let found = self.put_down(d, j, out);
         let end = ENTRY * found;
@@ -84,8 +82,8 @@ impl Tried<'_> {
 
     // Each mark changed by d, the earlier first.
     fn put_marks(&self, d: u64, out: &mut [u8]) -> usize
-        requires { (10 * length (changes_for self.now.strip.k self.now.window.now d) ≤ length out.old) × (d < self.now.strip.k) }
-        ensures { Wrote self.now.plan.now self.now.window.now (changes_for self.now.strip.k self.now.window.now d) out.old out.new result }
+        requires { (10 * length (changes_for self.now.plan.strip.k self.now.window.now d) ≤ length out.old) × (d < self.now.plan.strip.k) }
+        ensures { Wrote self.now.plan.sections.bytes.now self.now.window.now (changes_for self.now.plan.strip.k self.now.window.now d) out.old out.new result }
     {
         let mut found = 0;
         for j in 0..self.window.len() {
@@ -97,17 +95,16 @@ impl Tried<'_> {
 }
 
 // Each change of one mark, the smallest first.
-pub fn put_list(plan: &[u8], s: Strip, w: &[u8], out: &mut [u8]) -> usize
-    requires { Writes plan.now s w.now (changes s.k w.now) out.old }
-    ensures { Wrote plan.now w.now (changes s.k w.now) out.old out.new result }
+pub fn put_list(plan: &AcceptedPlan, w: &[u8], out: &mut [u8]) -> usize
+    requires { Writes plan.now.sections.bytes.now plan.now.strip w.now (changes plan.now.strip.k w.now) out.old }
+    ensures { Wrote plan.now.sections.bytes.now w.now (changes plan.now.strip.k w.now) out.old out.new result }
 {
     let tried = Tried {
-        plan,
-        strip: s,
+        plan: *plan,
         window: w,
     };
     let mut found = 0;
-    for d in 1..s.k {
+    for d in 1..plan.strip.k {
         let end = ENTRY * found;
         found += tried.put_marks(d, &mut out[end..]);
     }

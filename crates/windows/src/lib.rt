@@ -4,26 +4,27 @@
 ghost use Rattle.windows.specs.Looks.{Looks};
 
 use calls::Refusal;
-use shape::Strip;
+use plans::AcceptedPlan;
 
-// Where a window is laid: the strip of the plan, the window's place on it, and the number of its section.
+// Where a window is laid: the plan, the window's place on its strip, and the number of its section.
 #[derive(Clone, Copy)]
-pub struct Spot {
-    pub strip: Strip,
+pub struct Spot<'a> {
+    pub plan: AcceptedPlan<'a>,
     pub place: u64,
     pub section: u64,
 }
 
 // In any plan, for any window.
-pub fn look(plan: &[u8], window: &[u8]) -> Result<Spot, Refusal>
+#[tactic(auto, using(locator::proofs::Locates::place_small))]
+pub fn look<'a>(plan: &'a [u8], window: &[u8]) -> Result<Spot<'a>, Refusal>
     ensures { Looks plan.now window.now result }
 {
-    let strip = plans::open(plan)?;
-    let word = calls::check_word(strip.k, strip.n, window)?;
+    let accepted = plans::open(plan)?;
+    let word = calls::check_word(accepted.strip.k, accepted.strip.n, window)?;
     let place = locator::place_of(word);
-    let section = plans::laying(plan, place).ok_or(Refusal::NotLaid)?;
+    let section = accepted.laying(place).ok_or(Refusal::NotLaid)?;
     Ok(Spot {
-        strip,
+        plan: accepted,
         place,
         section,
     })

@@ -7,13 +7,13 @@ use Rattle.fitting.proofs.find.Goals as goal
 pub loop-c-preserved : goal.loop-c-preserved
 loop-c-preserved c = best_next c.requires c.loop-c.invariant c.better-best.ensures
 
-tried : (c : After-loop-c) → let a = c.args in Best a.plan.now a.s a.w.now c.fillings-total.result c.loop-c.best
-tried c = let a = c.args in subst (λ i. Best a.plan.now a.s a.w.now i c.loop-c.best) (omega arith) c.loop-c.invariant
+tried : (c : After-loop-c) → let plan = c.args.plan.now in Best plan.sections.bytes.now plan.strip c.args.w.now c.fillings-total.result c.loop-c.best
+tried c = let plan = c.args.plan.now in subst (λ i. Best plan.sections.bytes.now plan.strip c.args.w.now i c.loop-c.best) (omega arith) c.loop-c.invariant
 
-pub returns-then-best-s : goal.returns-then-best-s
-returns-then-best-s c =
-    nowhere c.requires c.fillings-total.ensures (tried (goal.at.returns-then-best-s c).After-loop-c) c.if-best-s.true
+pub returns-then-best-plan : goal.returns-then-best-plan
+returns-then-best-plan c =
+    nowhere c.requires c.fillings-total.ensures (tried (goal.at.returns-then-best-plan c).After-loop-c) c.if-best-plan.true
 
 pub returns : goal.returns
 returns c =
-    found c.requires c.fillings-total.ensures (tried (goal.at.returns c).After-loop-c) c.if-best-s.false
+    found c.requires c.fillings-total.ensures (tried (goal.at.returns c).After-loop-c) c.if-best-plan.false

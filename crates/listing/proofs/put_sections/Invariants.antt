@@ -4,4 +4,4 @@ use Rattle.listing.proofs.Sections.{Lines}
 use Rattle.listing.proofs.put_sections.Given as goal
 
 abbrev pub invariant-loop-i : goal.invariant-loop-i
-invariant-loop-i l = Lines l.s.k l.s.n (sections l.plan) l.i l.initial.text l.text
+invariant-loop-i l = Lines l.plan.strip.k l.plan.strip.n (sections l.plan.sections.bytes.now) l.i l.initial.text l.text

@@ -5,12 +5,11 @@ use Prim.Native.Nat.{ℕ, ◌-◌}
 use native.Mathlib.Omega.{arith}
 use lib.ListN.{length}
 use borrow.Rule.Slice.PartMut.{put_mid}
-use Rattle.theory.specs.Plans.{section_count}
 use Rattle.buffers.specs.Buffers.{over}
 use Rattle.numbers.specs.Numbers.{put_be}
 use Rattle.buffers.proofs.Bytes.{handed_on}
 use Rattle.numbers.proofs.Numbers.{put-length}
-use Rattle.calls.proofs.Answers.{into_small, into_answer}
+use Rattle.calls.proofs.Answers.{into_answer}
 use Rattle.lookups.specs.Says.{answer_at}
 use Rattle.lookups.proofs.Laying.{section_inside, starts_before, bytes_are}
 use Rattle.lookups.proofs.give.Goals.{After-put64}
@@ -26,20 +25,17 @@ front-written c =
     let a = c.args in
     handed_on (put_be 2 a.section) (put_be 8 (a.place - c.section_at.result.offset)) a.tray.now c.put16.new.out c.put64.new.out 2 (put-length 2 a.section) c.put16.ensures c.put64.ensures (omega arith)
 
-pub returns-then-tray-lt-ANSWER : goal.returns-then-tray-lt-ANSWER
-returns-then-tray-lt-ANSWER c = let a = c.args in into_small (answer_at a.plan.now a.place) a.tray.now refl (omega arith) refl refl
-
 pub section_at-requires : goal.section_at-requires
-section_at-requires c = omega (arith, section_inside c.requires, ap section_count c.of_accepted-sections.ensures)
+section_at-requires c = section_inside c.requires
 
 pub overflow_sub-distance : goal.overflow_sub-distance
-overflow_sub-distance c = starts_before c.requires (ap (λ x. x.offset) (rw c.of_accepted-sections.ensures at c.section_at.ensures))
+overflow_sub-distance c = starts_before c.requires c.section_at.ensures
 
 pub rail_of-requires : goal.rail_of-requires
-rail_of-requires c = omega (arith, section_inside c.requires, ap section_count c.of_accepted-sections.ensures)
+rail_of-requires c = section_inside c.requires
 
 pub returns : goal.returns
 returns c =
-    into_answer (answer_at c.args.plan.now c.args.place) c.args.tray.now refl (omega arith) refl
+    into_answer (answer_at c.args.plan.now.sections.bytes.now c.args.place) c.args.tray.now refl (omega arith) refl
     (handed_on (front c.args.section (c.args.place - c.section_at.result.offset)) (put_be 2 c.rail_of.result) c.args.tray.now _ c.put16-2.new.out 10 refl (front-written (goal.at.returns c).After-put64) c.put16-2.ensures (omega arith)
-    ∙ ap (λ b. over b c.args.tray.now) (bytes_are c.requires (ap (λ x. x.offset) (rw c.of_accepted-sections.ensures at c.section_at.ensures)) (rw c.of_accepted-sections.ensures at c.rail_of.ensures)))
+    ∙ ap (λ b. over b c.args.tray.now) (bytes_are c.requires c.section_at.ensures c.rail_of.ensures))

@@ -1,25 +1,31 @@
 -- What fits is laid.
-use mathlib.Core.Path.{◌≡◌}
+use mathlib.Core.Path.{◌≡◌, sym, subst}
 use native.Mathlib.Omega.{arith}
-use lib.ListN.{length}
 use Rattle.std.specs.Prelude.{Some}
-use Rattle.std.proofs.lemmas.Option.{MatchOption-at_some}
-use Rattle.theory.specs.Erasures.{fitting, lowest}
-use Rattle.lookups.proofs.Fitting.{place_small, there}
+use Rattle.calls.specs.Codes.{number_of}
+use Rattle.fitting.specs.Fits.{Finds}
+use Rattle.lookups.specs.Says.{SmudgedSays}
+use Rattle.lookups.proofs.Fitting.{place_small, there, answered}
 use Rattle.lookups.proofs.look_up_smudged.Goals.{In_ok-place}
 use Rattle.lookups.proofs.look_up_smudged.Goals as goal
 
 -- the place that was found
-found : (c : In_ok-place) → let s = c.args.plan.now in let w = c.args.window.now in ¬ (length (fitting s w) ≡ 0) × (c.in_ok-place.place ≡ lowest s w)
+found : (c : In_ok-place) → Finds c.in_ok-accepted.accepted.sections.bytes.now c.args.window.now (Some c.in_ok-place.place)
 found c =
     let is : c.find.result ≡ Some c.in_ok-place.place = grind arith in
-    MatchOption-at_some _ _ _ is c.find.ensures
+    rw is at c.find.ensures
 
 pub laying-requires : goal.laying-requires
 laying-requires c =
-    let plan = c.in_ok-strip.ensures.accepted in
-    (plan.faultless, place_small plan c.args.window.now (found (goal.at.laying-requires c).In_ok-place))
+    place_small c.in_ok-accepted.accepted.accepted c.args.window.now (found (goal.at.laying-requires c).In_ok-place)
 
 pub unwrap-section-requires : goal.unwrap-section-requires
 unwrap-section-requires c =
-    there c.in_ok-strip.ensures.accepted c.args.window.now (found (goal.at.unwrap-section-requires c).In_ok-place) c.laying.result c.laying.ensures
+    there c.in_ok-accepted.accepted.accepted c.args.window.now (found (goal.at.unwrap-section-requires c).In_ok-place) c.laying.result c.laying.ensures
+
+pub returns : goal.returns
+returns c =
+    let a = c.args in
+    let plan = c.in_ok-accepted.accepted.accepted in
+    let says = answered plan a.window.now (found (goal.at.returns c).In_ok-place) (sym c.in_ok-check_window.ensures) a.tray.now c.give.ensures in
+    subst (λ s. SmudgedSays s a.window.now a.tray.now c.give.new.tray (number_of c.give.result)) c.in_ok-accepted.ensures.1 says

@@ -10,4 +10,4 @@ returns c =
     let a = c.args in
     let t = a.self.now in
     let b = get_or t.window.now a.j 0 in
-    wrote_on c.put_down-found.ensures (changes_up t.strip.k a.d a.j b) (omega (arith, c.requires.0, length-append (changes_down a.d a.j b) (changes_up t.strip.k a.d a.j b))) c.put_up.ensures
+    wrote_on c.put_down-found.ensures (changes_up t.plan.strip.k a.d a.j b) (omega (arith, c.requires.0, length-append (changes_down a.d a.j b) (changes_up t.plan.strip.k a.d a.j b))) c.put_up.ensures

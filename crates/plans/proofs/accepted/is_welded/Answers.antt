@@ -2,7 +2,7 @@
 use Prim.Native.Nat.{◌+◌}
 use mathlib.Core.Path.{refl}
 use borrow.Author.Tests.{eq-eqb, ne_eqb}
-use Rattle.plans.proofs.is_welded.Goals as goal
+use Rattle.plans.proofs.accepted.is_welded.Goals as goal
 
 pub returns-then-section-next : goal.returns-then-section-next
 returns-then-section-next c =
