@@ -1,5 +1,5 @@
 -- What can be drawn: the width and height of a picture, and the faults behind the strip's.
-use mathlib.Core.Path.{◌≡◌}
+use mathlib.Core.Path.{◌≡◌, refl, sym, ◌∙◌, ap}
 use mathlib.Core.Bool.{true, not}
 use Prim.Native.Nat.{ℕ, ◌^◌, ◌<◌}
 use native.Mathlib.Omega.{arith}
@@ -11,13 +11,15 @@ use Rattle.theory.specs.Strips.{strip_fault}
 use Rattle.theory.proofs.Base.{and_l, and_r, and_in}
 use Rattle.theory.proofs.Faults.{first_none, when-none}
 use Rattle.calls.specs.Refusals.{framed, picture_fault}
+use Rattle.pbm.specs.declared.Picture as DP
 use Rattle.pbm.specs.Pictures.{picture, file_size}
 use Rattle.pbm.specs.Parts.{Frame}
 use Rattle.pbm.proofs.Rows.{file-size}
+use Rattle.pictures.specs.Says.{PictureOf}
 
 -- width and height
 module _ (c h : ℕ) where
-  frame_in : framed c h ≡ true → Frame c h
+  pub frame_in : framed c h ≡ true → Frame c h
   frame_in t =
       let t₁ = and_r (leb 1 c) _ t in
       let t₂ = and_r (leb c 60000) _ t₁ in
@@ -47,3 +49,11 @@ module _ (k n p c h : ℕ) where
 
   pub file-long : picture_fault k n p c h ≡ 0 → length (picture k n p c h) ≡ file_size c h
   file-long z = file-size k n p c h (frame_of z).some
+
+-- the file of a picture that was checked
+module _ {k n p c h : ℕ} (x : DP.Picture) (on : PictureOf k n p c h x) where
+  pub same_file : picture x.strip.k x.strip.n x.place x.width x.height ≡ picture k n p c h
+  same_file = rw (on.0.0, on.0.1, on.1, on.2, on.3) refl
+
+  pub checked_long : length (picture k n p c h) ≡ file_size x.width x.height
+  checked_long = ap length (sym same_file) ∙ file-size x.strip.k x.strip.n x.place x.width x.height x.drawable.frame.some

@@ -4,14 +4,12 @@
 
 ghost use Rattle.std.specs.Prelude.{◌≡◌};
 ghost use Rattle.calls.specs.Codes.{number_of};
-ghost use Rattle.calls.specs.Refusals.{framed, picture_fault};
-ghost use Rattle.calls.specs.Checks.{Checks};
-ghost use Rattle.pictures.specs.Says.{PictureSays, BothSay};
+ghost use Rattle.calls.specs.Refusals.{framed};
+ghost use Rattle.pictures.specs.Says.{ChecksPicture, PictureSays, BothSay};
 ghost use Rattle.pictures.specs.Requests.{PartsSay};
 
 use calls::Refusal;
-use pbm::Parts;
-use shape::Strip;
+use pbm::{Parts, Picture};
 
 // A picture has two shades, and is at most so wide and so high.
 const SHADES: u64 = 2;
@@ -37,9 +35,9 @@ fn is_framed(width: u64, height: u64) -> bool
 }
 
 // Is there such a strip, has it two shades, is the place on it, and can it be drawn so?
-// kept: five numbers and no struct of them: both calls take each from C by itself, and pbm asks for place, width and height by themselves.
-fn check(k: u64, n: u64, place: u64, width: u64, height: u64) -> Result<Strip, Refusal>
-    ensures { Checks (picture_fault k n place width height) k n result }
+#[tactic(auto, using(crate::proofs::Framing::frame_in))]
+fn check(k: u64, n: u64, place: u64, width: u64, height: u64) -> Result<Picture, Refusal>
+    ensures { ChecksPicture k n place width height result }
 {
     let strip = calls::check_strip(k, n)?;
     if k != SHADES {
@@ -49,7 +47,12 @@ fn check(k: u64, n: u64, place: u64, width: u64, height: u64) -> Result<Strip, R
         return Err(Refusal::OffTheStrip);
     }
     if is_framed(width, height) {
-        return Ok(strip);
+        return Ok(Picture {
+            strip,
+            place,
+            width,
+            height,
+        });
     }
     Err(Refusal::BadPicture)
 }
@@ -65,12 +68,12 @@ pub fn print_picture(
 ) -> Result<u64, Refusal>
     ensures { PictureSays k n place width height tray.old tray.new result }
 {
-    let strip = check(k, n, place, width, height)?;
-    let size = pbm::size(width, height);
+    let picture = check(k, n, place, width, height)?;
+    let size = picture.size();
     if (tray.len() as u64) < size {
         return Err(Refusal::TrayTooSmall);
     }
-    pbm::write(strip, place, width, height, tray);
+    picture.write(tray);
     Ok(size)
 }
 
@@ -97,6 +100,7 @@ pub fn picture_of(
 
 // What is printed for a request, which is k and n in a byte each, then the place, the width and the height in 8: the head and one row over the buffer's
 // start. No parts, if it has another length or is refused, or the buffer has fewer than pbm::MOST bytes.
+#[tactic(auto, using(pbm::proofs::Rows::head_most))]
 pub fn parts(request: &[u8], out: &mut [u8]) -> Parts
     ensures { PartsSay request.now out.old out.new result }
 {
@@ -116,8 +120,8 @@ pub fn parts(request: &[u8], out: &mut [u8]) -> Parts
     let place = numbers::get64(request, PLACE);
     let width = numbers::get64(request, WIDTH);
     let height = numbers::get64(request, HEIGHT);
-    let Ok(strip) = check(k, n, place, width, height) else {
+    let Ok(picture) = check(k, n, place, width, height) else {
         return none;
     };
-    pbm::begin(strip, place, width, height, out)
+    picture.begin(out)
 }

@@ -1,7 +1,6 @@
--- `parts` reads a request; refused, it has no parts, and there is room for any head.
-use Rattle.std.proofs.Common.{◌≡◌, arith, rules, ◌∙◌}
+-- `parts` reads a request; refused, it has no parts.
+use Rattle.std.proofs.Common.{◌≡◌, arith, ◌∙◌}
 use Rattle.calls.proofs.Answers.{code_some}
-use Rattle.pbm.proofs.Rows.{head_most}
 use Rattle.pictures.specs.Requests.{Request, request}
 use Rattle.pictures.proofs.Requesting.{refused, parted}
 use Rattle.pictures.proofs.parts.Goals.{After-check}
@@ -14,9 +13,6 @@ asked c = record { shades = c.from-k.result; marks = c.from-n.result; place = c.
 is : (c : After-check) → asked c ≡ request c.args.request.now
 is c = cc
 
-pub begin-requires : goal.begin-requires
-begin-requires c = search (rules, head_most)
-
 pub returns-in_default : goal.returns-in_default
 returns-in_default c =
     let at = (goal.at.returns-in_default c).After-check in
@@ -25,4 +21,5 @@ returns-in_default c =
 pub returns : goal.returns
 returns c =
     let at = (goal.at.returns c).After-check in
-    parted c.args.request.now c.args.out.now (asked at) (is at) (omega arith) (omega arith) c.in-Ok.ensures.0 (rw (c.in-Ok.ensures.1.0, c.in-Ok.ensures.1.1) at c.begin.ensures)
+    let (fine, on) = c.in-Ok.ensures in
+    parted c.args.request.now c.args.out.now (asked at) (is at) (omega arith) (omega arith) fine (rw (on.0.0, on.0.1, on.1, on.2, on.3) at c.begin.ensures)
