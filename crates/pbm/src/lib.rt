@@ -7,7 +7,7 @@ ghost use Rattle.theory.specs.Strips.{marks_from};
 ghost use Rattle.buffers.specs.Buffers.{over};
 ghost use Rattle.texts.specs.Texts.{Adds};
 ghost use Rattle.pbm.specs.Pictures.{row_size, file_size, row_text, head_text, picture};
-ghost use Rattle.pbm.specs.Parts.{Drawable, Parted};
+ghost use Rattle.pbm.specs.Parts.{Frame, Drawable, Parted};
 
 use shape::{Lengths, Place, Ring, Strip};
 use texts::Text;
@@ -76,17 +76,18 @@ fn row_size(width: u64) -> u64
     width + width.div_ceil(LINE as u64)
 }
 
-impl Picture {
-    // How many bytes the file has.
-    #[tactic(auto, using(crate::proofs::Rows::head_most))]
-    pub fn size(self) -> u64
-        ensures { result ≡ file_size self.width self.height }
-    {
-        let mut room = [0u8; HEAD];
-        let head = put_head(self.width, self.height, &mut room);
-        head as u64 + self.height * row_size(self.width)
-    }
+// How many bytes the file has.
+#[tactic(auto, using(crate::proofs::Rows::head_most))]
+pub fn size(width: u64, height: u64) -> u64
+    requires { Frame width height }
+    ensures { result ≡ file_size width height }
+{
+    let mut room = [0u8; HEAD];
+    let head = put_head(width, height, &mut room);
+    head as u64 + height * row_size(width)
+}
 
+impl Picture {
     // The row of its marks, over the whole buffer.
     fn put_row(self, out: &mut [u8])
         requires { length out.old ≡ row_size self.width }

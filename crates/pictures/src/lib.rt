@@ -69,7 +69,7 @@ pub fn print_picture(
     ensures { PictureSays k n place width height tray.old tray.new result }
 {
     let picture = check(k, n, place, width, height)?;
-    let size = picture.size();
+    let size = pbm::size(picture.width, picture.height);
     if (tray.len() as u64) < size {
         return Err(Refusal::TrayTooSmall);
     }
