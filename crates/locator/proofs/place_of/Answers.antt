@@ -6,7 +6,7 @@ use lib.ListN.{replicate}
 use lib.Seq.{length-take-le}
 use Rattle.locator.proofs.Leading.{leading_length}
 use Rattle.locator.proofs.Locates.{Located, place_small, base_counted}
-use Rattle.locator.proofs.Computed.{counts_inside, wrapped_inside, wrapped_place, turn_based, turn_located, rotated, letters_short, word_held, word_inside, text_room, text_place}
+use Rattle.locator.proofs.Computed.{counts_inside, wrapped_inside, wrapped_place, turn_based, turn_located, rotated, letters_short, word_held, word_inside, text_place}
 use Rattle.locator.proofs.place_of.Goals.{After-base, After-count_leading-lead, After-letters-1, After-shortest_root-long, After-text-2-1}
 use Rattle.locator.proofs.place_of.Goals as goal
 
@@ -58,11 +58,6 @@ write_from-requires c = word_held c.args.window.on (located (goal.at.write_from-
 pub overflow_sub-result : goal.overflow_sub-result
 overflow_sub-result c =
     word_inside c.args.window.on (located (goal.at.overflow_sub-result c).After-base) c.shortest_root-long.ensures c.whole-end.ensures.0
-
-pub first_fit-requires : goal.first_fit-requires
-first_fit-requires c =
-    text_room c.args.window.on (located (goal.at.first_fit-requires c).After-base) c.shortest_root-long.ensures c.write_from.ensures.0
-    (sym (slice_bounds-text-end (goal.at.first_fit-requires c).After-letters-1))
 
 -- at the end: the sum is the place, so it is small
 pub returns : goal.returns
