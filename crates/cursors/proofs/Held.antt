@@ -7,7 +7,7 @@ use native.Mathlib.Omega.{arith}
 use lib.Dec.{eqb, leb}
 use lib.ListN.{length, take, drop, replicate, length-drop, take-append-drop}
 use lib.Seq.{length-take-le, take-take, take_all}
-use borrow.Author.Tests.{le-ltb, le-leb, lt-leb, leb-true, ltb-true, ne_eqb, eq-eqb, eqb-true}
+use borrow.Author.Tests.{le-ltb, le-leb, leb-true, ltb-true, ne_eqb, eq-eqb, eqb-true}
 use Rattle.theory.specs.Words.{marks_ok, is_lyndon}
 use Rattle.theory.specs.Rings.{divides, good_in}
 use Rattle.theory.proofs.Base.{and_l, and_r, and_in, and_false}
@@ -50,9 +50,6 @@ module _ (c : DC.Cursor) (sixty : length c.word ≡ 60) where
 module _ (lengths : Lengths) (c : DC.Cursor) (sixty : length c.word ≡ 60) where
   abbrev on_ring : Bool
   on_ring = good_in (ok_of lengths) (cursor_in c)
-
-  pub too_long : 60 < c.long → (tidy c && on_ring) ≡ false
-  too_long h = ap (λ t. t && on_ring) (tidy_by c sixty ∙ ap (λ t. t && all_zero (drop c.long c.word)) (lt-leb c.long 60 h))
 
   pub untidy : false ≡ marks_ok 1 (take (60 - c.long) (drop c.long c.word)) → (tidy c && on_ring) ≡ false
   untidy e = ap (λ t. t && on_ring) (tidy_by c sixty ∙ and_false (leb c.long 60) _ (sym (tested c sixty e)))

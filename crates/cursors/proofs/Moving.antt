@@ -4,7 +4,6 @@ use mathlib.Core.Bool.{true, false}
 use mathlib.Core.List.{List, [], ◌∷◌, ◌++◌, append_assoc}
 use Prim.Native.Nat.{ℕ, suc, ◌+◌, ◌-◌, ◌≤◌, ◌<◌}
 use native.Mathlib.Omega.{arith}
-use native.Mathlib.Numerals.{add-one}
 use lib.Dec.{eqb, ltb}
 use lib.ListN.{length, get_or, take, drop, replicate, length-append, length-drop}
 use lib.Seq.{get_or-take, take_at, drop_at, drop-drop}
@@ -49,11 +48,6 @@ module _ {lengths : Lengths} {s : DH.Strip} {c : DC.Cursor} (g : GoodOn lengths 
   module _ {p : ℕ} {r : DT.Stepped} (e : (r.mark ≡ get_or c.word c.place 0) × (r.passed ≡ 0) × (r.cursor ≡ moved c p)) where
     stays : Is (cursor c.k c.n u p) r.cursor
     stays = subst (Is (cursor c.k c.n u p)) (sym e.2) (refl, tidy_in (moved c p) (fine g).sixty (fine g).fits (fine g).zeroed)
-
-    pub goes_inside : p ≡ c.place + 1 → p < c.long → Goes (step_in (ok_of lengths) (cursor_in c)) r
-    goes_inside q h =
-        let t : ltb (suc c.place) (length u) ≡ true = lt-ltb (suc c.place) (length u) (omega (arith, word-long g)) in
-        rw t (e.0 ∙ letter, e.1, subst (λ i. Is (cursor c.k c.n u i) r.cursor) (q ∙ add-one c.place) stays)
 
     pub backs_inside : p ≡ c.place - 1 → 0 < c.place → Goes (back_in (ok_of lengths) (cursor_in c)) r
     backs_inside q h = rw (lt-ltb 0 c.place h) (e.0 ∙ letter, e.1, subst (λ i. Is (cursor c.k c.n u i) r.cursor) q stays)

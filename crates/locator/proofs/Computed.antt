@@ -20,7 +20,7 @@ use Rattle.shape.proofs.Limits.{limits}
 use Rattle.rings.specs.Moves.{HeldOn}
 use Rattle.locator.specs.Fits.{leading, first_fit, Based, base_of}
 use Rattle.locator.proofs.Leading.{leading_length}
-use Rattle.locator.proofs.Locates.{Located, wrap_inside, wrap_place, base_fits, located, base_root, root_inside, base_held, text_length, fit_place}
+use Rattle.locator.proofs.Locates.{Located, wrap_inside, wrap_place, base_fits, located, base_root, root_inside, base_held, fit_place}
 
 -- the letters counted: l letters k−1, then m zeros
 module _ {s : DS.Strip} {w : List ℕ} {l m : ℕ} (on : WordOn s w) (lead : l ≡ leading (s.k - 1) w) (zeros : m ≡ leading 0 (take (length w - l) (drop l w))) where
@@ -77,11 +77,6 @@ module _ {s : DS.Strip} {w : List ℕ} {t : ℕ} {v : List ℕ} {long : ℕ} (on
     is_text =
         read ∙ ap (marks_from s.k s.n (place_in (cursor s.k s.n (take long v) 0))) (many ∙ ap₂ ◌+◌ size on.long)
         ∙ ap (λ x. marks_from s.k s.n (place_in (cursor s.k s.n (take x v) 0)) (root v + s.n)) size
-
-    pub text_room : (length w ≤ length text) × (length text ≤ 120)
-    text_room =
-        let e = text_length on at text is_text in
-        (omega (arith, e, on.long), omega (arith, e, on.long, size, letters_short))
 
     pub text_place : {end r : ℕ} → end ≡ cs s.k v → r ≡ first_fit text w → end - long + r ≡ place_of s.k s.n w
     text_place {end} {r} e f = omega (arith, e, f, size, fit_place on at text is_text)
