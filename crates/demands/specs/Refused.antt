@@ -1,6 +1,6 @@
 -- Which refusals each call knows, and when each applies: its number is the first of `order` that does, and 0 just when none does.
 -- A call's promise (its Says) stands as a premise.
-use Rattle.std.specs.Prelude.{Result, ◌≡◌, true, false, ◌&&◌, ◌||◌, not, List, [], ◌∷◌, ◌++◌, ◌↔◌, ◌≢◌, ℕ, ◌+◌, ◌^◌, ◌≤◌, ◌<◌, eqb, ltb, leb, length}
+use Rattle.std.specs.Prelude.{Result, ◌≡◌, true, false, ◌&&◌, ◌||◌, not, List, [], ◌∷◌, ◌++◌, ◌↔◌, ◌≢◌, ℕ, ◌^◌, ◌≤◌, ◌<◌, eqb, ltb, leb, length}
 use Rattle.theory.specs.Words.{root, how_many, keep, marks_ok}
 use Rattle.theory.specs.Lists.{In}
 use Rattle.theory.specs.Strips.{admitted, window}

@@ -4,6 +4,7 @@
 ghost use Rattle.demands.specs.Demands.{Demands};
 
 // Its contract is the promise; without its proof this crate fails.
+#[tactic(auto, using(crate::proofs::Kept::demands))]
 pub fn promised()
     ensures { Demands }
 {}

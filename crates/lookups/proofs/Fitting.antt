@@ -1,4 +1,4 @@
--- The lowest place that fits is on the strip, and laid.
+-- The lowest place that fits is on the strip, and laid; and its answer is what the smudged lookup promises.
 use mathlib.Core.Path.{◌≡◌, refl, sym, ◌∙◌, ap, ap₂, subst}
 use mathlib.Core.List.{List}
 use Prim.Native.Nat.{ℕ, ◌<◌, ◌^◌}

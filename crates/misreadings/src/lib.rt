@@ -11,6 +11,7 @@ use calls::Refusal;
 const MOST: usize = 3850;
 
 // The list in the tray's first bytes; the value is how many entries it has. What is found is kept apart until the tray is known to hold it.
+#[tactic(auto, using(crate::proofs::Listing::room))]
 pub fn misreadings(plan: &[u8], window: &[u8], tray: &mut [u8]) -> Result<u64, Refusal>
     ensures { MisreadingsSays plan.now window.now tray.old tray.new result }
 {

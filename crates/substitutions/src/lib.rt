@@ -97,7 +97,8 @@ impl Tried<'_> {
 // Each change of one mark, the smallest first.
 pub fn put_list(plan: &AcceptedPlan, w: &[u8], out: &mut [u8]) -> usize
     requires { Writes plan.now.sections.bytes.now plan.now.strip w.now (changes plan.now.strip.k w.now) out.old }
-    ensures { Wrote plan.now.sections.bytes.now w.now (changes plan.now.strip.k w.now) out.old out.new result }
+    ensures list { Wrote plan.now.sections.bytes.now w.now (changes plan.now.strip.k w.now) out.old out.new result }
+    ensures room { 10 * result ≤ length out.new }
 {
     let tried = Tried {
         plan: *plan,
