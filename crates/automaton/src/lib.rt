@@ -26,7 +26,7 @@ fn start(t: &mut Table, n: usize)
     t[0] = 1;
 }
 
-// kept: `Counted` as a clause: whole and sizes ask for it to call this, and use k and w apart.
+// kept: `Counted` as a clause, here and in whole and sizes: a Word of shape would ask for k up to 36, which no caller had to show.
 // One table for all prefixes of w: by the letter read, a path goes on to the next state or goes home.
 fn fill(k: u64, w: &[u8], t: &mut Table)
     requires { Counted k w.now }

@@ -13,7 +13,9 @@ use automaton::Table;
 use moebius::Sizes;
 use shape::{Strip, Word};
 
-// The sum over all divisors of n, divided by n. It is n times a number, so nothing is left.
+// The sum over all divisors of n, divided by n. It is n times a number, so nothing is left. Taken into of_word it would have the sizes cleared and copied
+// once more.
+#[inline(never)]
 fn quotient(s: Strip, sizes: &Sizes) -> u64
     requires { Summable s.k s.n sizes.now × Whole s.n sizes.now }
     ensures { pos (s.n * result) ≡ total s.n sizes.now }
@@ -24,6 +26,7 @@ fn quotient(s: Strip, sizes: &Sizes) -> u64
 }
 
 // The rank of a prenecklace: document 004's sum, by one table, which is lent as scratch.
+// kept: `Prenecklace` as a clause, here and in search and access: a type for it would be made at each call, only to be taken apart for automaton.
 pub fn of_prenecklace(word: Word, t: &mut Table) -> u64
     requires { Prenecklace word.letters.now }
     ensures { (result ≡ rank word.entry.strip.k word.entry.letters.now) × Scratch t.old t.new }
