@@ -170,7 +170,7 @@ def reached(function, functions):
     while left:
         caller = left.pop()
         for other in functions:
-            if other not in found and re.search(r"(?:(?<![\w:])|\b[A-Z]\w*::)%s\(" % other.name, caller.body):
+            if other not in found and re.search(r"(?:(?<![\w:])|\b[A-Z]\w*::)%s(?:::<\w+>)?\(" % other.name, caller.body):
                 found.append(other)
                 left.append(other)
     return found
@@ -240,7 +240,7 @@ def named(function):
     """How another crate calls a function: crate::function(..), or as a function or method of a type."""
     if function.of_type:
         return r"(?:\b[A-Z]\w*::|\.)%s\(" % function.name
-    return r"\b%s::(?:\w+::)*%s\(" % (function.crate, function.name)
+    return r"\b%s::(?:\w+::)*%s(?:::<\w+>)?\(" % (function.crate, function.name)
 
 
 # The tree of this repository

@@ -45,7 +45,7 @@ pub fn give(value: u64, tray: &mut [u8]) -> Result<(), Refusal>
     if tray.len() < NUMBER {
         return Err(Refusal::TrayTooSmall);
     }
-    numbers::put64(value, tray);
+    numbers::put::<8>(value, tray);
     Ok(())
 }
 

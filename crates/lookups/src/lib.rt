@@ -25,9 +25,9 @@ fn give(plan: &AcceptedPlan, place: u64, section: u64, tray: &mut [u8]) -> Resul
         return Err(Refusal::TrayTooSmall);
     }
     let distance = place - plan.sections.section_at(section).offset;
-    numbers::put16(section, tray);
-    numbers::put64(distance, &mut tray[DISTANCE..]);
-    numbers::put16(plan.sections.rail_of(section), &mut tray[RAIL..]);
+    numbers::put::<2>(section, tray);
+    numbers::put::<8>(distance, &mut tray[DISTANCE..]);
+    numbers::put::<2>(plan.sections.rail_of(section), &mut tray[RAIL..]);
     Ok(())
 }
 

@@ -40,6 +40,6 @@ pub fn misreadings_of(
         return Err(Refusal::TrayTooSmall);
     }
     let found = misreadings(plan, window, tray)?;
-    numbers::put64(found, count);
+    numbers::put::<8>(found, count);
     Ok(())
 }

@@ -94,7 +94,7 @@ pub fn picture_of(
         return Err(Refusal::TrayTooSmall);
     }
     let total = print_picture(k, n, place, width, height, tray)?;
-    numbers::put64(total, size);
+    numbers::put::<8>(total, size);
     Ok(())
 }
 
@@ -117,9 +117,9 @@ pub fn parts(request: &[u8], out: &mut [u8]) -> Parts
     }
     let k = u64::from(request[0]);
     let n = u64::from(request[1]);
-    let place = numbers::get64(request, PLACE);
-    let width = numbers::get64(request, WIDTH);
-    let height = numbers::get64(request, HEIGHT);
+    let place = numbers::get::<8>(request, PLACE);
+    let width = numbers::get::<8>(request, WIDTH);
+    let height = numbers::get::<8>(request, HEIGHT);
     let Ok(picture) = check(k, n, place, width, height) else {
         return none;
     };

@@ -45,7 +45,7 @@ impl<'a> Plan<'a> {
         if bytes.len() < HEAD {
             return None;
         }
-        let count = numbers::get16(bytes, COUNT);
+        let count = numbers::get::<2>(bytes, COUNT);
         if SECTIONS < count {
             return None;
         }
@@ -60,7 +60,7 @@ impl<'a> Plan<'a> {
     pub fn count(&self) -> u64
         ensures { result ≡ section_count self.now.bytes.now }
     {
-        numbers::get16(self.bytes, COUNT)
+        numbers::get::<2>(self.bytes, COUNT)
     }
 
     // Bytes of an entry: the total tells which record it is.
@@ -85,11 +85,11 @@ impl<'a> Plan<'a> {
         let rail = if size == PAIR {
             0
         } else {
-            numbers::get16(self.bytes, at + PAIR)
+            numbers::get::<2>(self.bytes, at + PAIR)
         };
         Section {
-            offset: numbers::get64(self.bytes, at),
-            long: numbers::get64(self.bytes, at + NUMBER),
+            offset: numbers::get::<8>(self.bytes, at),
+            long: numbers::get::<8>(self.bytes, at + NUMBER),
             rail,
         }
     }

@@ -42,7 +42,7 @@ impl Tried<'_> {
         }
         out[0] = j as u8;
         out[1] = a;
-        numbers::put64(place, &mut out[PLACE..]);
+        numbers::put::<8>(place, &mut out[PLACE..]);
         1
     }
 

@@ -8,7 +8,7 @@ use Rattle.pictures.proofs.parts.Goals as goal
 
 -- the numbers that were read
 abbrev asked : After-check → Request
-asked c = record { shades = c.from-k.result; marks = c.from-n.result; place = c.get64-place.result; width = c.get64-width.result; height = c.get64-height.result }
+asked c = record { shades = c.from-k.result; marks = c.from-n.result; place = c.get-place.result; width = c.get-width.result; height = c.get-height.result }
 
 is : (c : After-check) → asked c ≡ request c.args.request.now
 is c = cc

@@ -11,6 +11,6 @@ returns c =
     let size = c.entry_size-size.ensures in
     let at = entry_inside s a.i c.requires size a.self.now.whole in
     elim c.if-size-eq-PAIR.branch [
-      | then-size-eq-PAIR w ↦ section_read s a.i c.requires size w.if-size-eq-PAIR.true c.get64.ensures c.get64-2.ensures w.rail-is
-      | else-size-eq-PAIR w ↦ section_read s a.i c.requires size (at.railed w.if-size-eq-PAIR.false) c.get64.ensures c.get64-2.ensures (w.rail-is ∙ w.get16-rail.ensures)
+      | then-size-eq-PAIR w ↦ section_read s a.i c.requires size w.if-size-eq-PAIR.true c.get.ensures c.get-2.ensures w.rail-is
+      | else-size-eq-PAIR w ↦ section_read s a.i c.requires size (at.railed w.if-size-eq-PAIR.false) c.get.ensures c.get-2.ensures (w.rail-is ∙ w.get-rail.ensures)
     ]

@@ -12,7 +12,7 @@ use Rattle.shape.specs.Shapes.{WordOn}
 use Rattle.shape.proofs.Limits.{limits}
 use Rattle.plans.proofs.Laid.{laid_some, laid_none}
 use Rattle.substitutions.proofs.Changing.{two_bytes, changed_on_strip, new_place_small, wrote_not, wrote_one}
-use Rattle.substitutions.proofs.Tried.put_change.Goals.{After-copy, After-place_of-place, After-put64}
+use Rattle.substitutions.proofs.Tried.put_change.Goals.{After-copy, After-place_of-place, After-put}
 use Rattle.substitutions.proofs.Tried.put_change.Goals as goal
 
 -- the copy is the window, of at most 60 letters
@@ -52,4 +52,4 @@ returns c =
     let t = a.self.now in
     wrote_one t.plan.accepted t.word a.j c.requires.2 (place_is (goal.at.returns c).After-place_of-place) a.out.now
     (laid_some t.plan.sections.bytes.now _ c.laying.result c.laying.ensures (sym (c.is_none.ensures ∙ ap not c.if-is_none.false)))
-    (two_bytes a.j a.a (put_be 8 c.place_of-place.result) a.out.now _ (omega (arith, c.requires.0)) c.put64.ensures)
+    (two_bytes a.j a.a (put_be 8 c.place_of-place.result) a.out.now _ (omega (arith, c.requires.0)) c.put.ensures)
