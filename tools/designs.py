@@ -26,7 +26,7 @@ def sources(commit):
 
 def functions(text):
     """Line, head and body of each function."""
-    for found in re.finditer(r"^( *)(?:pub )?(?:extern \"C\" )?fn (\w+)", text, re.M):
+    for found in re.finditer(r"^( *)(?:pub(?:\(crate\))? )?(?:extern \"C\" )?fn (\w+)", text, re.M):
         end = text.find("\n" + found[1] + "{\n", found.start())
         short = text.find(" {\n", found.start())
         start = short if end < 0 or 0 <= short < end and "\n" not in text[found.start():short] else end
