@@ -1,9 +1,12 @@
 // The place of a window: a word of the strip whose letters, with those that follow, hold it, and where it stands in them.
 #![tactic(auto)]
 
-ghost use Rattle.std.specs.Prelude.{◌≡◌, ◌-◌, ◌≤◌, eqb, length};
+ghost use Rattle.std.specs.Prelude.{◌≡◌, ◌-◌, ◌^◌, ◌≤◌, eqb, length};
 ghost use Rattle.theory.specs.Words.{pick};
+ghost use Rattle.theory.specs.Sums.{cs};
+ghost use Rattle.theory.specs.Prenecklaces.{Prenecklace};
 ghost use Rattle.theory.specs.Strips.{place_of};
+ghost use Rattle.automaton.specs.Tables.{Counted};
 ghost use Rattle.locator.specs.Fits.{leading, first_fit, Based, base_of};
 
 use shape::{Lengths, Ring, Strip, Word};
@@ -65,6 +68,16 @@ fn wrapped(s: Strip, lead: usize) -> u64
     s.size - lead as u64
 }
 
+// The size of CS of a necklace, by one table: where its word ends. Taken into place_of it would have the table cleared twice.
+#[inline(never)]
+fn end_of(k: u64, v: &[u8], top: u64) -> u64
+    requires { Counted k v.now × Prenecklace v.now × (top ≡ k ^ length v.now) }
+    ensures { result ≡ cs k v.now }
+{
+    let mut t = [0u64; automaton::CELLS];
+    automaton::whole(k, v, top, &mut t)
+}
+
 // The place of a window.
 pub fn place_of(window: Word) -> u64
     ensures { result ≡ place_of window.entry.strip.k window.entry.strip.n window.entry.letters.now }
@@ -81,8 +94,7 @@ pub fn place_of(window: Word) -> u64
     let v = &mut room[..n];
     let turn = rotations::smallest(w, v);
     base(k, turn, lead, v);
-    let mut t = [0u64; automaton::CELLS];
-    let end = automaton::whole(k, v, s.size, &mut t);
+    let end = end_of(k, v, s.size);
     let long = rotations::shortest_root(v);
     let mut letters = [0u8; TEXT];
     let text = &mut letters[..long + n];

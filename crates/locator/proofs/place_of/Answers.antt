@@ -39,8 +39,8 @@ located c =
     turn_located c.args.window.on c.count_leading-lead.ensures c.count_leading.ensures c.if-lead-count_leading.false
     c.smallest-turn.ensures.0 (rotated c.args.window.on c.smallest-turn.ensures.1) c.base.ensures
 
-pub whole-end-requires : goal.whole-end-requires
-whole-end-requires c = base_counted c.args.window.on (located (goal.at.whole-end-requires c).After-base)
+pub end_of-end-requires : goal.end_of-end-requires
+end_of-end-requires c = base_counted c.args.window.on (located (goal.at.end_of-end-requires c).After-base)
 
 -- the word and as many letters as the window has fit the buffer
 pub slice_bounds-letters-end : goal.slice_bounds-letters-end
@@ -57,13 +57,13 @@ write_from-requires c = word_held c.args.window.on (located (goal.at.write_from-
 
 pub overflow_sub-result : goal.overflow_sub-result
 overflow_sub-result c =
-    word_inside c.args.window.on (located (goal.at.overflow_sub-result c).After-base) c.shortest_root-long.ensures c.whole-end.ensures.0
+    word_inside c.args.window.on (located (goal.at.overflow_sub-result c).After-base) c.shortest_root-long.ensures c.end_of-end.ensures
 
 -- at the end: the sum is the place, so it is small
 pub returns : goal.returns
 returns c =
     text_place c.args.window.on (located (goal.at.returns c).After-base) c.shortest_root-long.ensures c.write_from.ensures.0
-    (sym (slice_bounds-text-end (goal.at.returns c).After-letters-1)) c.whole-end.ensures.0 c.first_fit.ensures
+    (sym (slice_bounds-text-end (goal.at.returns c).After-letters-1)) c.end_of-end.ensures c.first_fit.ensures
 
 pub overflow_add-result : goal.overflow_add-result
 overflow_add-result c =
