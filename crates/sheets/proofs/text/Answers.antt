@@ -3,8 +3,8 @@ use mathlib.Core.Path.{sym, ◌∙◌, ap₂}
 use Rattle.std.proofs.Common.{rules}
 use Rattle.texts.specs.Writers.{Writes}
 use Rattle.texts.proofs.Writing.{writes_as}
-use Rattle.sheets.specs.Worksheets.{word_in, sheet, worksheet}
-use Rattle.sheets.proofs.Inputs.{behind, fine_sheet}
+use Rattle.sheets.specs.Worksheets.{sheet, worksheet}
+use Rattle.sheets.proofs.Inputs.{fine_sheet}
 use Rattle.sheets.proofs.text.Goals as goal
 use Rattle.sheets.proofs.text.Goals.{in-Ok, in-Err}
 
