@@ -8,6 +8,7 @@ use native.Mathlib.Omega.{arith}
 use lib.Dec.{ltb}
 use lib.ListN.{length}
 use borrow.Author.Tests.{ltb-true, ltb-false, lt-ltb, le-ltb, ne_eqb}
+use Rattle.std.specs.Prelude.{Option, Some}
 use Rattle.theory.specs.Words.{pick, keep, marks_ok}
 use Rattle.theory.specs.Lists.{In}
 use Rattle.theory.specs.Strips.{place_of}
@@ -20,7 +21,7 @@ use Rattle.shape.specs.declared.Strip as DS
 use Rattle.shape.specs.Shapes.{WordOn}
 use Rattle.shape.proofs.Limits.{limits}
 use Rattle.locator.proofs.Locates.{place_small}
-use Rattle.fitting.specs.Fits.{Sought, better_of}
+use Rattle.fitting.specs.Fits.{Sought, better_of, Finds}
 
 -- how the better of the best so far, b, and a place p is found: by comparing them, and by the section l of the window at p
 module _ (s : List ℕ) (b : ℕ) {p q : ℕ} (place : p ≡ q) where
@@ -35,6 +36,10 @@ module _ (s : List ℕ) (b : ℕ) {p q : ℕ} (place : p ≡ q) where
 
   pub lower : p < b → ¬ (laying_at s p ≡ 0) → p ≡ better_of s b q
   lower h e = picked (and_in (lt-ltb p b h) (ap not (ne_eqb (laying_at s p) 0 e)))
+
+-- a place that the search answers is the lowest
+pub is_lowest : (s w : List ℕ) {r : Option ℕ} {p : ℕ} → Finds s w r → r ≡ Some p → p ≡ lowest s w
+is_lowest s w h e = (subst (Finds s w) e h).1
 
 -- the place of filling c
 abbrev pub spot : DS.Strip → List ℕ → ℕ → ℕ
@@ -70,6 +75,10 @@ module _ {s : List ℕ} {x : DS.Strip} {w : List ℕ} (h : Sought s x w) where
       let long : length (filling (shades s) c w) ≡ marks s = filling-length (shades s) c w ∙ window-long ∙ h.plan.marked in
       let letters : marks_ok (shades s) (filling (shades s) c w) ≡ true = subst (λ k. marks_ok k (filling k c w) ≡ true) h.plan.letters (filling_on_strip c).marks in
       subst (λ p. In p (fitting s w)) (by_plan c) (laid_fits s w h.plan.faultless (filling (shades s) c w) long letters (filling-agrees (shades s) c w) (ap (laid_at s) (by_plan c) ∙ laid))
+
+  -- before the first filling
+  pub best_none : Best s x w 0 x.size
+  best_none = record { most = omega arith; fits = λ l. absurd (omega arith); least = λ i l. absurd (omega arith) }
 
   -- with one filling more
   module _ {c b : ℕ} (best : Best s x w c b) {r : ℕ} where

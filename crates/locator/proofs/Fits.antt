@@ -50,6 +50,12 @@ pub fit_on : (text w : List ℕ) (m p : ℕ) → p < m → same (stands text w p
     → fit_from (m - p) p text w ≡ fit_from (m - (p + 1)) (p + 1) text w
 fit_on text w m p h t = fit_step text w m p h ∙ rw (t, add-one p)
 
+-- no offset is left
+pub fit_none : (text w : List ℕ) (m p : ℕ) → m ≤ p → fit_from (m - p) p text w ≡ p
+fit_none text w m p h =
+    let n : m - p ≡ 0 = omega arith in
+    rw n
+
 -- a trial: its first j letters agree
 abbrev pub Trial : List ℕ → List ℕ → ℕ → ℕ → Type 0
 Trial text w p j = same (stands text w p) w ≡ same (drop j (stands text w p)) (drop j w)

@@ -1,5 +1,5 @@
 -- The sum over the divisors among the first i numbers from n downwards: how it grows, and that it stays small enough for its type.
-use mathlib.Core.Path.{◌≡◌, sym, ◌∙◌, ap, ap₂}
+use mathlib.Core.Path.{◌≡◌, refl, sym, ◌∙◌, ap, ap₂}
 use mathlib.Core.List.{List}
 use Prim.Native.Nat.{ℕ, ◌+◌, ◌-◌, ◌/◌, ◌%◌, ◌^◌, ◌≤◌, ◌<◌}
 use native.Mathlib.Omega.{arith}
@@ -18,6 +18,10 @@ use Rattle.moebius.proofs.Signed.{plus_is, scaled_small, mobius_small, fits64}
 abbrev pub sum_to : ℕ → List ℕ → ℕ → ℤ
 sum_to n sizes i = running (summand n sizes) (pos 0) (divisors_in n i)
 
+-- the sum over none
+pub sum-none : (n : ℕ) (sizes : List ℕ) → sum_to n sizes 0 ≡ pos 0
+sum-none n sizes = refl
+
 sum_more : (n : ℕ) (sizes : List ℕ) (i : ℕ) → i < n → n % (n - i) ≡ 0 → sum_to n sizes (i + 1) ≡ sum_to n sizes i +ℤ summand n sizes (n - i)
 sum_more n sizes i h e =
     ap (running (summand n sizes) (pos 0)) (in_more n i h e) ∙ running_last (summand n sizes) (pos 0) (divisors_in n i) (n - i)
@@ -26,9 +30,17 @@ sum_more n sizes i h e =
 pub sum_skip : (n : ℕ) (sizes : List ℕ) (i : ℕ) → i < n → (n % (n - i) ≡ 0 → ⊥) → sum_to n sizes (i + 1) ≡ sum_to n sizes i
 sum_skip n sizes i h e = ap (running (summand n sizes) (pos 0)) (in_skip n i h e)
 
+-- the sum over all
+pub sum_all : (n : ℕ) (sizes : List ℕ) (i l : ℕ) → i ≡ l → sum_to n sizes i ≡ running (summand n sizes) (pos 0) (divisors_in n l)
+sum_all n sizes i l e = ap (λ x. running (summand n sizes) (pos 0) (divisors_in n x)) e
+
 module _ (k n : ℕ) (sizes : List ℕ) (s : Summable k n sizes) where
   pub entry_small : (d : ℕ) → d ≤ n → get_or sizes d 0 ≤ 2 ^ 60
   entry_small d h = omega (arith, s.small d, pow-le-pow_right {n = k} (omega (arith, s.two)) h, s.range)
+
+  -- no sum is larger than 2^61
+  pub sum_small : (i : ℕ) → nat_abs (sum_to n sizes i) ≤ 2 ^ 61
+  sum_small i = omega (arith, s.range, terms_small k n (λ d. get_or sizes d 0) (divisors_in n i) s.two s.some (in_once n i) (in_part n i s.some) (λ d h. s.small d))
 
   -- any term and any running sum are far from the ends of i64
   pub term_range : (d : ℕ) → d ≤ n → nat_abs (summand n sizes d) < 2 ^ 63

@@ -19,7 +19,7 @@ use Rattle.buffers.specs.Buffers.{over}
 use Rattle.shape.specs.declared.Strip as DS
 use Rattle.shape.proofs.Limits.{limits}
 use Rattle.texts.specs.Texts.{Adds}
-use Rattle.texts.proofs.Adding.{adds_part, adds_more}
+use Rattle.texts.proofs.Adding.{adds_within, adds_part, adds_more}
 use Rattle.pbm.specs.declared.Parts as DP
 use Rattle.pbm.specs.Pictures.{row_text, head_text, picture, row_size, file_size}
 use Rattle.pbm.specs.Parts.{Drawable, Parted}
@@ -59,6 +59,9 @@ module _ (s : DS.Strip) (ten : s.k ≤ 10) (p c : ℕ) where
 module _ {head row : List ℕ} {rows : ℕ} {b t : List ℕ} {r : DP.Parts} (q : Parted head row rows b t r) where
   pub seam_before : r.head ≤ r.end
   seam_before = omega (arith, q.adds.ends, q.seam, length-append head row)
+
+  pub end_within : r.end ≤ length t
+  end_within = adds_within q.adds (omega arith)
 
 -- the head and the row behind it
 module _ {s : DS.Strip} {p c h : ℕ} (d : Drawable s p c h) where

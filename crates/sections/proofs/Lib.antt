@@ -1,2 +1,3 @@
--- The entries of a plan that is not torn.
+-- The tests for a torn plan, and the entries of one that is not.
+pub mod Torn
 pub mod Entries

@@ -32,6 +32,13 @@ decimal_large v h = rw (le-ltb v 10 h, decimal_from) (ap (λ r. r ++ ((48 + v % 
 pub decimal_longer : (v : ℕ) → 10 ≤ v → length (decimal v) ≡ length (decimal (v / 10)) + 1
 decimal_longer v h = ap length (decimal_large v h) ∙ length-append (decimal (v / 10)) ((48 + v % 10) ∷ [])
 
+-- at least one digit
+pub decimal_some : (v : ℕ) → 1 ≤ length (decimal v)
+decimal_some v = elim (split 10 v) [
+  | upto h ↦ omega (arith, decimal_longer v h)
+  | over h ↦ omega (arith, ap length (decimal_small v h))
+]
+
 pub decimal-length : (l v : ℕ) → 1 ≤ l → v < 10 ^ l → length (decimal v) ≤ l
 decimal-length zero v b h = absurd (omega arith)
 decimal-length (suc l) v b h = elim (split 10 v) [

@@ -1,0 +1,22 @@
+-- The test of the sections, from section i on: what it says of one that begins before the last has ended.
+use mathlib.Core.Path.{◌≡◌, ◌∙◌, ap}
+use mathlib.Core.Bool.{false}
+use mathlib.Core.List.{List, ◌∷◌}
+use Prim.Native.Nat.{ℕ, ◌+◌, ◌<◌}
+use lib.ListN.{length, drop}
+use borrow.Author.Tests.{lt-leb}
+use Rattle.theory.specs.Plans.{Section, straight_from, nth_s}
+use Rattle.theory.proofs.Records.{from_section}
+
+-- sections ahead of i have passed, the last of them ends at `end`, and section i is x
+pub record At (n top end : ℕ) (xs : List Section) (i : ℕ) (x : Section) : Type 0 where
+  pub left : straight_from n top 0 xs ≡ straight_from n top end (drop i xs)
+  pub inside : i < length xs
+  pub is : x ≡ nth_s xs i
+
+module _ {n top end : ℕ} {xs : List Section} {i : ℕ} {x : Section} (at : At n top end xs i x) where
+  one : straight_from n top 0 xs ≡ straight_from n top end (x ∷ drop (i + 1) xs)
+  one = at.left ∙ ap (straight_from n top end) (from_section xs i at.inside at.is)
+
+  pub early : x.offset < end → straight_from n top 0 xs ≡ false
+  early h = one ∙ rw (lt-leb end x.offset h)
