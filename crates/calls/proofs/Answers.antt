@@ -36,9 +36,9 @@ code_some NoSuchPrice z = omega arith
 code_some RepeatingWindow z = omega arith
 
 -- a value, or the number of a refusal
-pub value_told : (f v : ℕ) (r : Result ℕ Refusal) → ValueIs f v r → (number_of r ≡ f) × (value_of r ≡ pick (eqb f 0) v 0)
-value_told f v (Ok x) (z, e) = rw z (refl, e)
-value_told f v (Err e) h = rw (sym h, ne_eqb (code e) 0 (code_some e)) (refl, refl)
+pub value_parts : (f v : ℕ) (r : Result ℕ Refusal) → ValueIs f v r → (number_of r ≡ f) × (value_of r ≡ pick (eqb f 0) v 0)
+value_parts f v (Ok x) (z, e) = rw z (refl, e)
+value_parts f v (Err e) h = rw (sym h, ne_eqb (code e) 0 (code_some e)) (refl, refl)
 
 -- bytes into a tray
 pub into_refused : {f r : ℕ} (b t : List ℕ) {t' : List ℕ} → f ≡ r → ¬ (r ≡ 0) → t' ≡ t → Into f (pick (eqb f 0) b []) t t' r
@@ -111,6 +111,18 @@ number_answer v t h l e g = into_answer (put_be 8 v) t h l e g
 
 pub number_given : {f r v x : ℕ} (t : List ℕ) {t' : List ℕ} → f ≡ 0 → x ≡ v → Number 0 x t t' r → Number f v t t' r
 number_given t h e g = into_given t h (ap (put_be 8) e) g
+
+-- a value, then its 8 bytes into a tray
+module _ (f v : ℕ) (t : List ℕ) (a : Result ℕ Refusal) (e : ValueIs f v a) where
+  pub value_untold : ¬ (number_of a ≡ 0) → Number f v t t (number_of a)
+  value_untold some = into_refused (put_be 8 v) t (sym (value_parts f v a e).0) some refl
+
+  pub value_told : {t' : List ℕ} {r : ℕ} → number_of a ≡ 0 → Number 0 (value_of a) t t' r → Number f v t t' r
+  value_told z g =
+      let parts = value_parts f v a e in
+      let fine : f ≡ 0 = sym parts.0 ∙ z in
+      let value : value_of a ≡ v = rw fine at parts.1 in
+      number_given t fine value g
 
 -- bytes written over the first part of a tray
 pub part-over : {b x : List ℕ} {n : ℕ} (t : List ℕ) → x ≡ b → length b ≡ n → x ++ drop n t ≡ over b t

@@ -13,7 +13,7 @@ use Rattle.theory.proofs.Records.{alike_fault}
 use Rattle.theory.proofs.Prices.{alike}
 use Rattle.numbers.specs.Numbers.{put_be}
 use Rattle.calls.specs.Refusals.{bill_fault}
-use Rattle.calls.proofs.Answers.{value_told, or_room}
+use Rattle.calls.proofs.Answers.{value_parts, or_room}
 use Rattle.prices.proofs.Billing.{bill_small}
 use Rattle.bills.specs.Says.{BillSays, BillOfSays}
 use Rattle.demands.specs.Refused.{AllShort}
@@ -33,7 +33,7 @@ billed_told s p c r good short h g e =
 pub bill_both : (s : List ℕ) (p c : ℕ) (t t' : List ℕ) (r : Result ℕ Refusal) (q : ℕ) → 8 ≤ length t → BillSays s p c r → BillOfSays s p c t t' q
     → (q ≡ number_of r) × (q ≡ 0 → be 0 8 t' ≡ value_of r) × (drop 8 t' ≡ drop 8 t)
 bill_both s p c t t' r q room e f =
-    let number : q ≡ number_of r = answer_number (bill_answers s p c t t' q f) ∙ or_room (bill_fault s p c) t room ∙ sym (value_told (bill_fault s p c) (cost_of p c (sections s)) r e).0 in
+    let number : q ≡ number_of r = answer_number (bill_answers s p c t t' q f) ∙ or_room (bill_fault s p c) t room ∙ sym (value_parts (bill_fault s p c) (cost_of p c (sections s)) r e).0 in
     (number, same, (trays.bill_of s p c t t' q f).2)
   where
     same : q ≡ 0 → be 0 8 t' ≡ value_of r
@@ -46,6 +46,6 @@ pub bill_same : (s u : List ℕ) (p c : ℕ) (r q : Result ℕ Refusal) → Alik
 bill_same s u p c r q a e f =
     let (short, cost) = alike p c s u a in
     let fault : bill_fault s p c ≡ bill_fault u p c = rw (alike_fault s u a, short) in
-    let one = value_told (bill_fault s p c) (cost_of p c (sections s)) r e in
-    let two = value_told (bill_fault u p c) (cost_of p c (sections u)) q f in
+    let one = value_parts (bill_fault s p c) (cost_of p c (sections s)) r e in
+    let two = value_parts (bill_fault u p c) (cost_of p c (sections u)) q f in
     (one.0 ∙ fault ∙ sym two.0, one.1 ∙ ap₂ (λ g v. pick (eqb g 0) v 0) fault cost ∙ sym two.1)

@@ -28,7 +28,7 @@ use Rattle.theory.proofs.Prices.{short_sections}
 use Rattle.calls.specs.Order.{rule, given}
 use Rattle.calls.specs.Answers.{or_short}
 use Rattle.calls.specs.Refusals.{the_word_fault, short_window_fault, index_fault, ring_fault, framed, picture_fault, bill_fault}
-use Rattle.calls.proofs.Answers.{value_told}
+use Rattle.calls.proofs.Answers.{value_parts}
 use Rattle.cursors.proofs.Told.{start_told, move_told}
 use Rattle.calls.proofs.Order.{given-none, given_first}
 use Rattle.pbm.specs.Pictures.{file_size}
@@ -136,11 +136,11 @@ pub refusals : Refusals
 refusals = record {
   none = given-none;
   first = given_first;
-  is_lyndon_lem = λ k n w r e. (value_told _ _ r e).0 ∙ word-given k n w;
+  is_lyndon_lem = λ k n w r e. (value_parts _ _ r e).0 ∙ word-given k n w;
   smallest_rotation = λ k n w t t' r e. answer_number (rotation_answers k n w t t' r e) ∙ word_tray k n w t n;
   turn_of = λ k n w t t' r e. answer_number (turn_answers k n w t t' r e) ∙ word_tray k n w t 8;
-  shortest_root = λ k n w r e. (value_told _ _ r e).0 ∙ word-given k n w;
-  lyndon_count = λ k n r e. (value_told _ _ r e).0 ∙ strip_number (not (admitted k n));
+  shortest_root = λ k n w r e. (value_parts _ _ r e).0 ∙ word-given k n w;
+  lyndon_count = λ k n r e. (value_parts _ _ r e).0 ∙ strip_number (not (admitted k n));
   rank_of = λ k n w t t' r e. answer_number (rank_answers k n w t t' r e) ∙ word_tray k n w t 8;
   word_of_lem = λ k n i t t' r e. answer_number (word_answers k n i t t' r e) ∙ index_tray k n i t n;
   mark_at_lem = λ lengths k n p t t' r e. answer_number (mark_answers lengths k n p t t' r e) ∙ place_tray lengths k n p t 8;
@@ -154,10 +154,10 @@ refusals = record {
   look_up_smudged = λ s w t t' r e. answer_number (smudged_answers s w t t' r e) ∙ smudged_tray s w t answer_size;
   misreadings = λ s w t t' r e. answer_number (misreadings_answers s w t t' r e) ∙ laying_tray s w (ltb (length t) (list_size s w));
   misreadings_of = λ s w c c' t t' r e. answer_number (misreadings_of_answers s w c c' t t' r e) ∙ two_trays (lookup_fault s w) c t (list_size s w) ∙ laying_tray s w (ltb (length c) 8 || ltb (length t) (list_size s w));
-  bill = λ s p c r e. (value_told _ _ r e).0 ∙ bill_given s p c;
+  bill = λ s p c r e. (value_parts _ _ r e).0 ∙ bill_given s p c;
   bill_of = λ s p c t t' r e. answer_number (bill_answers s p c t t' r e) ∙ bill_tray s p c t;
   start_cursor = λ lengths k n p r e. (start_told _ (cursor_on (ok_of lengths n) k n p) r e).0 ∙ place_given lengths k n p;
-  cursor_place = λ lengths c r e. (value_told _ _ r e).0 ∙ cursor-given lengths c;
+  cursor_place = λ lengths c r e. (value_parts _ _ r e).0 ∙ cursor-given lengths c;
   step = λ lengths c r e. (move_told _ (step_in (ok_of lengths) (cursor_in c)) c r e).0 ∙ cursor-given lengths c;
   step_back = λ lengths c r e. (move_told _ (back_in (ok_of lengths) (cursor_in c)) c r e).0 ∙ cursor-given lengths c;
   not_laid = not_laid;

@@ -31,7 +31,7 @@ use Rattle.buffers.proofs.Bytes.{over-length}
 use Rattle.numbers.proofs.Numbers.{put-read}
 use Rattle.calls.specs.Answers.{Into, IntoValue, or_short, IntoBoth, Number, ValueIs}
 use Rattle.calls.specs.Refusals.{the_word_fault, short_window_fault, index_fault, ring_fault, picture_fault, bill_fault}
-use Rattle.calls.proofs.Answers.{number_answer, value_told}
+use Rattle.calls.proofs.Answers.{number_answer, value_parts}
 use Rattle.theory.proofs.Ranks.{undone}
 use Rattle.demands.proofs.Faults.{index_range}
 use Rattle.words.specs.Says.{RotationSays, TurnSays}
@@ -64,10 +64,10 @@ tray_back v t h e = ap (be 0 8) e ∙ number_back v h
 
 -- a number and a value, without fault and with one
 pub value_fine : {f v : ℕ} (r : Result ℕ Refusal) → f ≡ 0 → ValueIs f v r → (number_of r ≡ 0) × (value_of r ≡ v)
-value_fine {f} {v} r h e = let t = value_told f v r e in (t.0 ∙ h, t.1 ∙ ap (λ x. pick (eqb x 0) v 0) h)
+value_fine {f} {v} r h e = let t = value_parts f v r e in (t.0 ∙ h, t.1 ∙ ap (λ x. pick (eqb x 0) v 0) h)
 
 pub no_value : (f v : ℕ) (r : Result ℕ Refusal) → ValueIs f v r → number_of r ≢ 0 → value_of r ≡ 0
-no_value f v r e h = let t = value_told f v r e in t.1 ∙ ap (λ x. pick x v 0) (ne_eqb f 0 (λ z. h (t.0 ∙ z)))
+no_value f v r e h = let t = value_parts f v r e in t.1 ∙ ap (λ x. pick x v 0) (ne_eqb f 0 (λ z. h (t.0 ∙ z)))
 
 -- bytes in a tray and a value beside them
 pub beside_fine : (f v : ℕ) (b t : List ℕ) {t' : List ℕ} (r : Result ℕ Refusal) → f ≡ 0 → length b ≤ length t → IntoValue f v (pick (eqb f 0) b []) t t' r

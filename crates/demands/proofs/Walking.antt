@@ -25,7 +25,7 @@ use Rattle.theory.proofs.Cursors.{at_kept, step_kept, back_kept}
 use Rattle.theory.proofs.Reading.{modulo_small, modulo_lt, modulo-modulo, modulo-plus, modulo_suc, letters-modulo}
 use Rattle.shape.proofs.Limits.{Limits, admitted_limits, limits_admit}
 use Rattle.calls.specs.Refusals.{ring_fault}
-use Rattle.calls.proofs.Answers.{value_told}
+use Rattle.calls.proofs.Answers.{value_parts}
 use Rattle.cursors.proofs.Told.{faultless_says, MoveTold, start_told, move_told}
 use Rattle.cursors.proofs.Held.{same_bytes, tidy_out}
 use Rattle.cursors.specs.declared.Cursor as DC
@@ -77,7 +77,7 @@ pub stands : (lengths : Lengths) (c : DC.Cursor) (v : Result ℕ Refusal) → fa
     → (number_of v ≡ 0) × (value_of v ≡ position_in (ok_of lengths) (cursor_in c)) × (value_of v < size_of lengths c.k c.n)
 stands lengths c v h e =
     let s = sound lengths c h in
-    let (number, value) : (number_of v ≡ 0) × (value_of v ≡ position_in (ok_of lengths) (cursor_in c)) = rw h at (value_told (fault_on lengths c) (position_in (ok_of lengths) (cursor_in c)) v e) in
+    let (number, value) : (number_of v ≡ 0) × (value_of v ≡ position_in (ok_of lengths) (cursor_in c)) = rw h at (value_parts (fault_on lengths c) (position_in (ok_of lengths) (cursor_in c)) v e) in
     (number, value, omega (arith, value, (cursors_of lengths).within (cursor_in c) s.limits.two s.limits.some s.good))
 
 -- a step: what its promise says where there is no fault, and where there is one

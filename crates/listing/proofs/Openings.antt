@@ -1,16 +1,22 @@
--- An accepted plan: where its sections start, and its listing, the strip and the sections.
-use mathlib.Core.Path.{◌≡◌, sym, ◌∙◌, ap, ap₂}
+-- A plan's listing: of an accepted one, whose sections start on the strip, the strip and the sections; of a refused one its fault.
+use mathlib.Core.Path.{◌≡◌, sym, ◌∙◌, ap, ap₂, subst}
 use mathlib.Core.List.{List, ◌++◌}
 use Prim.Native.Nat.{ℕ, ◌^◌, ◌<◌}
 use native.Mathlib.Omega.{arith}
-use borrow.Author.Tests.{eq-eqb}
+use borrow.Author.Tests.{eq-eqb, ne_eqb}
+use Rattle.std.specs.Prelude.{Result, Err}
 use Rattle.theory.specs.Words.{pick}
 use Rattle.theory.specs.Plans.{shades, marks, section_count, sections, nth_s, plan_fault}
 use Rattle.theory.proofs.Records.{sections_count}
 use Rattle.theory.proofs.Laying.{section_straight}
 use Rattle.shape.specs.declared.Strip as DS
 use Rattle.shape.proofs.Limits.{limits}
+use Rattle.calls.specs.declared.refusal.Refusal.{Refusal}
+use Rattle.calls.specs.Codes.{code}
+use Rattle.calls.proofs.Answers.{code_some}
+use Rattle.plans.specs.declared.accepted.AcceptedPlan.{AcceptedPlan}
 use Rattle.plans.specs.Accepted.{Accepted}
+use Rattle.plans.specs.Opened.{Opens}
 use Rattle.lines.specs.Lines.{refused_line}
 use Rattle.listing.specs.Listings.{strip_line, section_lines, listing}
 
@@ -26,3 +32,10 @@ module _ {s : List ℕ} {x : DS.Strip} (plan : Accepted s x) where
   accepted_text =
       let lines : ℕ → ℕ → List ℕ = λ k n. strip_line k n ++ section_lines k n 0 (sections s) in
       ap₂ lines plan.letters plan.marked ∙ sym (ap (λ b. pick b (lines (shades s) (marks s)) (refused_line (plan_fault s))) (eq-eqb _ _ plan.faultless))
+
+-- a refused plan
+pub refused_text_lem : (s : List ℕ) {c : Result AcceptedPlan Refusal} {f : Refusal} → Opens s c → c ≡ Err f → refused_line (code f) ≡ listing s
+refused_text_lem s {f = f} e h =
+    let is : code f ≡ plan_fault s = subst (Opens s) h e in
+    let lines = strip_line (shades s) (marks s) ++ section_lines (shades s) (marks s) 0 (sections s) in
+    ap refused_line is ∙ sym (ap (λ b. pick b lines (refused_line (plan_fault s))) (ne_eqb (plan_fault s) 0 (λ z. code_some f (is ∙ z))))

@@ -37,3 +37,8 @@ module _ {s : List ℕ} {x : DS.Strip} (a : Accepted s x) (w : List ℕ) {p : �
 
   pub answered : smudge_fault x.k x.n w ≡ 0 → (t : List ℕ) {t' : List ℕ} {r : ℕ} → Into 0 (answer_at s p) t t' r → SmudgedSays s w t t' r
   answered fine t given = into_given t (no_fault fine) (ap (answer_at s) found.1) given
+
+-- the answer that is given for what the search found
+pub found-lowest : {s : List ℕ} {x : DS.Strip} (a : Accepted s x) (w : List ℕ) → smudge_fault x.k x.n w ≡ 0 → {r : Option ℕ} → Finds s w r → {p : ℕ} → r ≡ Some p
+    → (t : List ℕ) {t' : List ℕ} {q : ℕ} → Into 0 (answer_at s p) t t' q → SmudgedSays s w t t' q
+found-lowest {s = s} a w fine finds e t g = answered a w (subst (Finds s w) e finds) fine t g

@@ -1,0 +1,2 @@
+-- Laws of a window looked for in a plan.
+pub mod Looking
