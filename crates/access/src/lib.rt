@@ -51,8 +51,8 @@ fn short_holder(s: Strip, p: u64, v: &mut [u8]) -> Spot
     }
 }
 
-// kept: n bytes by a clause: n is known when it runs.
 // The word is put over the start of a buffer of n bytes; what stands behind it there is not promised.
+// kept: n bytes by a clause, as in search::find: n is known only when it runs, and a struct for buffers of n bytes would be no plainer.
 fn holder(place: Place, v: &mut [u8]) -> Spot
     requires { length v.old ≡ place.ring.strip.n }
     ensures { HoldsAt place.ring.lengths place.ring.strip place.at v.new result }

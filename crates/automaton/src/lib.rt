@@ -26,8 +26,8 @@ fn start(t: &mut Table, n: usize)
     t[0] = 1;
 }
 
-// kept: `Counted` as a clause, here and in whole and sizes: a Word of shape would ask for k up to 36, which no caller had to show.
 // One table for all prefixes of w: by the letter read, a path goes on to the next state or goes home.
+// kept: `Counted` as a clause, here, in whole and sizes and in locator, and `Prenecklace` beside it: a Word of shape would ask for k up to 36, which no caller had to show, and a struct of their own would be made for each call.
 fn fill(k: u64, w: &[u8], t: &mut Table)
     requires { Counted k w.now }
     ensures { Filled k w.now t.new }

@@ -37,7 +37,7 @@ fn is_good(lengths: Lengths, c: Cursor) -> bool
     ensures { result ≡ (tidy c && good_in (ok_of lengths) (cursor_in c)) }
 {
     let word = c.word;
-    let long = c.long as usize;
+    let long = usize::from(c.long);
     if Strip::LONGEST < long {
         return false;
     }
@@ -45,10 +45,10 @@ fn is_good(lengths: Lengths, c: Cursor) -> bool
     if lyndon::letters_below(1, &word[long..]) {
         return rings::is_on(
             lengths,
-            c.k as u64,
-            c.n as u64,
+            u64::from(c.k),
+            u64::from(c.n),
             &word[..long],
-            c.place as u64,
+            u64::from(c.place),
         );
     }
     false
@@ -58,7 +58,7 @@ fn is_good(lengths: Lengths, c: Cursor) -> bool
 fn check(lengths: Lengths, c: Cursor) -> Result<Standing, Refusal>
     ensures { ChecksCursor lengths c result }
 {
-    let strip = calls::check_strip(c.k as u64, c.n as u64)?;
+    let strip = calls::check_strip(u64::from(c.k), u64::from(c.n))?;
     if is_good(lengths, c) {
         return Ok(Standing {
             ring: Ring { lengths, strip },
@@ -129,6 +129,7 @@ pub fn short_cursor_place(c: Cursor) -> Result<u64, Refusal>
 }
 
 // A step along the ring.
+// kept: on and back, and each ring, by a function of its own: README's table names each call.
 fn step_on(lengths: Lengths, c: Cursor) -> Result<Stepped, Refusal>
     ensures { StepOn lengths c result }
 {

@@ -24,12 +24,12 @@ impl Standing {
     {
         let c = self.cursor;
         let mut word = c.word;
-        let marks = c.n as usize;
+        let marks = usize::from(c.n);
         access::position(
             self.ring,
             &mut word[..marks],
-            c.long as usize,
-            c.place as usize,
+            usize::from(c.long),
+            usize::from(c.place),
         )
     }
 
@@ -40,7 +40,7 @@ impl Standing {
     {
         let c = self.cursor;
         let mut word = c.word;
-        let mark = word[c.place as usize];
+        let mark = word[usize::from(c.place)];
         let next = c.place + 1;
         if next < c.long {
             return Stepped {
@@ -49,8 +49,8 @@ impl Standing {
                 cursor: Cursor { place: next, ..c },
             };
         }
-        let marks = c.n as usize;
-        let moved = rings::next_word(self.ring, &mut word[..marks], c.long as usize);
+        let marks = usize::from(c.n);
+        let moved = rings::next_word(self.ring, &mut word[..marks], usize::from(c.long));
         Stepped {
             mark,
             passed: moved.passed,
@@ -69,7 +69,7 @@ impl Standing {
     {
         let c = self.cursor;
         let mut word = c.word;
-        let mark = word[c.place as usize];
+        let mark = word[usize::from(c.place)];
         if 0 < c.place {
             return Stepped {
                 mark,
@@ -80,8 +80,8 @@ impl Standing {
                 },
             };
         }
-        let marks = c.n as usize;
-        let led = rings::previous_word(self.ring, &mut word[..marks], c.long as usize);
+        let marks = usize::from(c.n);
+        let led = rings::previous_word(self.ring, &mut word[..marks], usize::from(c.long));
         let long = led.long as u8;
         Stepped {
             mark,

@@ -10,6 +10,7 @@ ghost use Rattle.calls.specs.Codes.{number_of};
 use calls::Refusal;
 
 // An erasure; no mark has this byte, since there are at most 36 shades. And how many a window may have.
+// kept: a byte for an unread mark: README's table has it so.
 const UNREAD: u8 = 255;
 
 const MOST: usize = 2;

@@ -10,6 +10,7 @@ use texts::Text;
 pub const LINE: usize = 128;
 
 // The line of a refusal.
+// kept: a number and no Refusal: it prints any byte, and `refused_line` is of that number.
 pub fn put_refused(number: u8, text: &mut Text)
     requires { HasRoom text.old line }
     ensures { Writes text.old (refused_line number) text.new }

@@ -14,8 +14,8 @@ use sections::Section;
 use shape::{Lengths, Place, Ring, Strip};
 use texts::Text;
 
-// kept: a number for the clauses, here and in sheets: an array of so many bytes would not take a longer buffer, as text does.
 // Bytes that hold any listing: a plan has at most 500 sections.
+// kept: `HasRoom` and `most` as clauses, here, in lines and in sheets: room is of a text and of a line each time; an array of so many bytes would not take a longer buffer, as text does.
 pub const MOST: usize = lines::LINE * 501;
 
 // The strip that a plan is laid on.

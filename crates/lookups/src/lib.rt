@@ -7,7 +7,7 @@ ghost use Rattle.calls.specs.Answers.{Into};
 ghost use Rattle.lookups.specs.Says.{answer_at, LaidIn, PlanSays, LookupSays, SmudgedSays};
 
 use calls::Refusal;
-use plans::AcceptedPlan;
+use windows::Spot;
 
 // The answer's bytes: the section's number in 2, the distance in 8, the rail in 2; where the last two begin, and how many there are.
 const DISTANCE: usize = 2;
@@ -16,18 +16,19 @@ const RAIL: usize = 10;
 
 const ANSWER: usize = 12;
 
-// The answer for the window at a place, which is laid in a section, into the tray.
-fn give(plan: &AcceptedPlan, place: u64, section: u64, tray: &mut [u8]) -> Result<(), Refusal>
-    requires { LaidIn plan.now.sections.bytes.now place section }
-    ensures { Into 0 (answer_at plan.now.sections.bytes.now place) tray.old tray.new (number_of result) }
+// The answer for a window that is laid, into the tray.
+fn give(spot: &Spot, tray: &mut [u8]) -> Result<(), Refusal>
+    requires { LaidIn spot.now.plan.sections.bytes.now spot.now.place spot.now.section }
+    ensures { Into 0 (answer_at spot.now.plan.sections.bytes.now spot.now.place) tray.old tray.new (number_of result) }
 {
     if tray.len() < ANSWER {
         return Err(Refusal::TrayTooSmall);
     }
-    let distance = place - plan.sections.section_at(section).offset;
-    numbers::put::<2>(section, tray);
+    let sections = spot.plan.sections;
+    let distance = spot.place - sections.section_at(spot.section).offset;
+    numbers::put::<2>(spot.section, tray);
     numbers::put::<8>(distance, &mut tray[DISTANCE..]);
-    numbers::put::<2>(plan.sections.rail_of(section), &mut tray[RAIL..]);
+    numbers::put::<2>(sections.rail_of(spot.section), &mut tray[RAIL..]);
     Ok(())
 }
 
@@ -43,8 +44,7 @@ pub fn check_plan(plan: &[u8]) -> Result<(), Refusal>
 pub fn look_up(plan: &[u8], window: &[u8], tray: &mut [u8]) -> Result<(), Refusal>
     ensures { LookupSays plan.now window.now tray.old tray.new (number_of result) }
 {
-    let spot = windows::look(plan, window)?;
-    give(&spot.plan, spot.place, spot.section, tray)
+    give(&windows::look(plan, window)?, tray)
 }
 
 // Section, distance and rail of the laid window of the lowest place that agrees at every mark that was read; byte 255 is one that was not, and there may be two.
@@ -55,5 +55,10 @@ pub fn look_up_smudged(plan: &[u8], window: &[u8], tray: &mut [u8]) -> Result<()
     erasures::check_window(accepted.strip.k, accepted.strip.n, window)?;
     let place = fitting::find(&accepted, window).ok_or(Refusal::NotLaid)?;
     let section = accepted.laying(place).unwrap();
-    give(&accepted, place, section, tray)
+    let spot = Spot {
+        plan: accepted,
+        place,
+        section,
+    };
+    give(&spot, tray)
 }

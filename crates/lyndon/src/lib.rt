@@ -14,7 +14,7 @@ pub fn letters_below(k: u64, w: &[u8]) -> bool
 }
 
 // The length of the Lyndon word that w extends, by comparing each letter with the one a period back; 0 if a letter is smaller.
-// kept: 0 and no Option: the definition `pre_period`, which it equals, is that number.
+// kept: 0 and no Option: steps::previous uses the length as it is, and the definition `pre_period`, which it equals, is that number.
 pub fn pre_period(w: &[u8]) -> usize
     ensures { result ≡ pre_period w.now }
 {

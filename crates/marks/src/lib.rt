@@ -37,6 +37,7 @@ fn print_on(
 }
 
 // The mark at a place, as 8 bytes.
+// kept: a call for each ring: README's table names each, and each has its own `Says`.
 pub fn mark_at(k: u64, n: u64, place: u64, tray: &mut [u8]) -> Result<(), Refusal>
     ensures { MarkSays k n place tray.old tray.new (number_of result) }
 {

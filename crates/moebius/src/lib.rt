@@ -18,7 +18,7 @@ const MOBIUS: [i8; 60] = [
 ];
 
 // The Möbius value of n.
-// kept: n up to 60 by a clause, as k up to 36 in erasures: each is of another argument, and not all come from a strip.
+// kept: n up to 60 by a clause, here, in term and powers, as `Summable` in divisor_sum, ranks and sheets: a Strip in its place would ask for more (k up to 36, and that n is one of it).
 fn moebius(n: u64) -> i8
     requires { (1 ≤ n) × (n ≤ 60) }
     ensures { result ≡ mobius n }

@@ -32,6 +32,7 @@ pub struct Picture {
 }
 
 // A file's parts: where the head ends, where the row behind it does, and how often the row is written.
+// kept: three numbers beside the buffer: `Parted` and `PartsSay` speak of them.
 #[derive(Clone, Copy)]
 pub struct Parts {
     pub head: usize,

@@ -100,6 +100,7 @@ pub fn picture_of(
 
 // What is printed for a request, which is k and n in a byte each, then the place, the width and the height in 8: the head and one row over the buffer's
 // start. No parts, if it has another length or is refused, or the buffer has fewer than pbm::MOST bytes.
+// kept: parts of no length for none: `PartsSay`, of which `Demands.picture_by_rows` makes use, says so of any bytes.
 #[tactic(auto, using(pbm::proofs::Rows::head_most))]
 pub fn parts(request: &[u8], out: &mut [u8]) -> Parts
     ensures { PartsSay request.now out.old out.new result }

@@ -42,8 +42,8 @@ pub fn open(plan: &[u8]) -> Result<AcceptedPlan<'_>, Refusal>
     ensures { Opens plan.now result }
 {
     let sections = Plan::new(plan).ok_or(Refusal::TornPlan)?;
-    let n = plan[1] as u64;
-    let strip = calls::check_strip(plan[0] as u64, n)?;
+    let n = u64::from(plan[1]);
+    let strip = calls::check_strip(u64::from(plan[0]), n)?;
     if is_straight(n, strip.size, &sections) {
         return Ok(AcceptedPlan { strip, sections });
     }

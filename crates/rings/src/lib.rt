@@ -82,8 +82,8 @@ fn put_last(ring: Ring, w: &mut [u8]) -> usize
 }
 
 // The ring's word after the one in the first `long` letters; the first after the last.
-// kept: on and back by two functions: one would take step, turn and promise from a trait, which is longer than both.
-// kept: a buffer and the length of its word, here and in steps and access: `Cursor` has its word so, and without a heap no slice grows.
+// kept: on and back by two functions: one would take step, turn and promise from a trait, and be longer than both.
+// kept: a buffer and the length of its word, with `HeldOn` as a clause, here and in steps and access: `Cursor` keeps its word so (paper), and a struct would lend the buffer on at each step.
 pub fn next_word(ring: Ring, w: &mut [u8], long: usize) -> Moved
     requires { HeldOn ring.lengths ring.strip w.old long }
     ensures { MovedIs ring.lengths ring.strip w.old long w.new result }

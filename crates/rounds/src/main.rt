@@ -10,7 +10,7 @@ const STDOUT: i32 = 1;
 // Steps of a walk, and marks that are printed after it.
 const STEPS: usize = 80;
 
-// kept: the same walks stand in `returns`: a test program shares no crate with another.
+// kept: the same walks stand in `returns`: a crate for a list of test data would be no plainer.
 // The walks of tests/rounds.py, in their order: k, n and the place that each starts at.
 const WALKS: [(u64, u64, u64); 14] = [
     (2, 5, 0),

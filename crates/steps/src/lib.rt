@@ -36,7 +36,7 @@ fn raise_last(k: u64, w: &mut [u8]) -> usize
 }
 
 // The next Lyndon word of at most w.len() letters after the one in the first `long` letters; 0 after the last.
-// kept: 0 and no Option: `NextIs` has the length of the word that is left, and of the empty one that is 0.
+// kept: 0 and no Option, here, in raise_last and previous: `NextIs` and `PreviousIs` have the length of the word that is left, and 0 is that of the empty one; an Option would need a clause more, that its length is not 0.
 #[tactic(auto, using(crate::proofs::Stepping::extension_lettered))]
 pub fn next(k: u64, w: &mut [u8], long: usize) -> usize
     requires { Held k w.old long }

@@ -25,6 +25,7 @@ struct Tried<'a> {
 
 impl Tried<'_> {
     // Mark j changed to a.
+    // kept: the bounds of j and d as clauses: a type for either would be made and taken apart at each step; and entries by their number: `Wrote` counts them, and an entry has a fixed size.
     fn put_change(&self, j: usize, a: u8, out: &mut [u8]) -> usize
         requires { (10 ≤ length out.old) × (j < length self.now.window.now) × (a < self.now.plan.strip.k) }
         ensures { Wrote self.now.plan.sections.bytes.now self.now.window.now (change j a ∷ []) out.old out.new result }

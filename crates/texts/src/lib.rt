@@ -89,6 +89,7 @@ impl<'a> Text<'a> {
 }
 
 // A number in decimal: its higher digits, then the last.
+// kept: digits by hand, and no Display: the promise is of each byte, by `decimal`.
 fn put_decimal(v: u64, text: &mut Text)
     requires { HasRoom text.old (length (decimal v)) }
     ensures { Writes text.old (decimal v) text.new }

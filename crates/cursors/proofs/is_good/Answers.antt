@@ -13,8 +13,8 @@ sixty c = search rules
 
 pub returns-then-letters_below : goal.returns-then-letters_below
 returns-then-letters_below c =
-    c.is_on.ensures ∙ sym (tidied c.args.lengths c.args.c (sixty (goal.at.returns-then-letters_below c).Start) (omega arith) (sym c.if-letters_below.true ∙ c.letters_below.ensures))
+    (rw (c.from-long.ensures, c.from.ensures, c.from-then-letters_below.ensures, c.from-then-letters_below-2.ensures) at c.is_on.ensures) ∙ sym (tidied c.args.lengths c.args.c (sixty (goal.at.returns-then-letters_below c).Start) (omega arith) (rw c.from-long.ensures at (sym c.if-letters_below.true ∙ c.letters_below.ensures)))
 
 pub returns : goal.returns
 returns c =
-    sym (untidy c.args.lengths c.args.c (sixty (goal.at.returns c).Start) (sym c.if-letters_below.false ∙ c.letters_below.ensures))
+    sym (untidy c.args.lengths c.args.c (sixty (goal.at.returns c).Start) (rw c.from-long.ensures at (sym c.if-letters_below.false ∙ c.letters_below.ensures)))

@@ -20,10 +20,10 @@ abbrev front : ℕ → ℕ → List ℕ
 front number distance = put_be 2 number ++ put_be 8 distance
 
 -- these are written
-front-written : (c : After-put-2) → put_mid 2 (length c.put.new.out - 2) c.put.new.out c.put-2.new.out ≡ over (front c.args.section (c.args.place - c.section_at.result.offset)) c.args.tray.now
+front-written : (c : After-put-2) → put_mid 2 (length c.put.new.out - 2) c.put.new.out c.put-2.new.out ≡ over (front c.args.spot.now.section (c.args.spot.now.place - c.section_at.result.offset)) c.args.tray.now
 front-written c =
     let a = c.args in
-    handed_on (put_be 2 a.section) (put_be 8 (a.place - c.section_at.result.offset)) a.tray.now c.put.new.out c.put-2.new.out 2 (put-length 2 a.section) c.put.ensures c.put-2.ensures (omega arith)
+    handed_on (put_be 2 a.spot.now.section) (put_be 8 (a.spot.now.place - c.section_at.result.offset)) a.tray.now c.put.new.out c.put-2.new.out 2 (put-length 2 a.spot.now.section) c.put.ensures c.put-2.ensures (omega arith)
 
 pub section_at-requires : goal.section_at-requires
 section_at-requires c = section_inside c.requires
@@ -36,6 +36,6 @@ rail_of-requires c = section_inside c.requires
 
 pub returns : goal.returns
 returns c =
-    into_answer (answer_at c.args.plan.now.sections.bytes.now c.args.place) c.args.tray.now refl (omega arith) refl
-    (handed_on (front c.args.section (c.args.place - c.section_at.result.offset)) (put_be 2 c.rail_of.result) c.args.tray.now _ c.put-3.new.out 10 refl (front-written (goal.at.returns c).After-put-2) c.put-3.ensures (omega arith)
+    into_answer (answer_at c.args.spot.now.plan.sections.bytes.now c.args.spot.now.place) c.args.tray.now refl (omega arith) refl
+    (handed_on (front c.args.spot.now.section (c.args.spot.now.place - c.section_at.result.offset)) (put_be 2 c.rail_of.result) c.args.tray.now _ c.put-3.new.out 10 refl (front-written (goal.at.returns c).After-put-2) c.put-3.ensures (omega arith)
     ∙ ap (λ b. over b c.args.tray.now) (bytes_are c.requires c.section_at.ensures c.rail_of.ensures))

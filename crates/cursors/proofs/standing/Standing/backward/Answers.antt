@@ -6,13 +6,13 @@ use Rattle.cursors.proofs.Moving.{backs_inside, previous_long, backs_away}
 use Rattle.cursors.proofs.standing.Standing.backward.Goals as goal
 
 pub returns-then-c-gt0 : goal.returns-then-c-gt0
-returns-then-c-gt0 c = backs_inside c.args.self.good (refl, refl, refl) refl (omega arith)
+returns-then-c-gt0 c = rw c.from.ensures (backs_inside c.args.self.good (refl, refl, refl) refl (omega arith))
 
 pub previous_word-led-requires : goal.previous_word-led-requires
-previous_word-led-requires c = held_on c.args.self.good
+previous_word-led-requires c = rw (c.from-marks.ensures, c.from-2.ensures) (held_on c.args.self.good)
 
 pub overflow_sub-result-2 : goal.overflow_sub-result-2
-overflow_sub-result-2 c = omega (arith, (previous_long c.args.self.good c.previous_word-led.ensures).0)
+overflow_sub-result-2 c = omega (arith, (previous_long c.args.self.good (rw (c.from-marks.ensures, c.from-2.ensures) at c.previous_word-led.ensures)).0)
 
 pub returns : goal.returns
-returns c = backs_away c.args.self.good c.previous_word-led.ensures (omega arith)
+returns c = rw (c.from.ensures, c.from-marks.ensures) (backs_away c.args.self.good (rw (c.from-marks.ensures, c.from-2.ensures) at c.previous_word-led.ensures) (omega arith))

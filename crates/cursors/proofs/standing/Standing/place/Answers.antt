@@ -6,8 +6,8 @@ use Rattle.cursors.proofs.standing.Standing.place.Goals as goal
 
 pub position-requires : goal.position-requires
 position-requires c =
-    (held_on c.args.self.good, omega (arith, place_inside c.args.self.good))
+    rw (c.from-marks.ensures, c.from.ensures, c.from-2.ensures) (held_on c.args.self.good, omega (arith, place_inside c.args.self.good))
 
 pub returns : goal.returns
 returns c =
-    same_place c.args.self.good c.position.ensures.0
+    same_place c.args.self.good (rw (c.from-marks.ensures, c.from.ensures, c.from-2.ensures) at c.position.ensures.0)
