@@ -22,7 +22,8 @@ pub struct Spot {
     pub at: usize,
 }
 
-// On the strip: the necklace found by the position, up to whose end CS has so many words.
+// On the strip: the necklace found by the position, up to whose end CS has so many words. By itself, so that the short ring needs no room for its table.
+#[inline(never)]
 fn strip_holder(s: Strip, p: u64, v: &mut [u8]) -> Spot
     requires { (p < s.size) × (length v.old ≡ s.n) }
     ensures { HoldsAt Divisors s p v.new result }
