@@ -83,7 +83,7 @@ fn put_last(ring: Ring, w: &mut [u8]) -> usize
 
 // The ring's word after the one in the first `long` letters; the first after the last.
 // kept: on and back by two functions: one would take step, turn and promise from a trait, and be longer than both.
-// kept: a buffer and the length of its word, with `HeldOn` as a clause, here and in steps and access: `Cursor` keeps its word so (paper), and a struct would lend the buffer on at each step.
+// kept: a buffer and the length of its word, with `HeldOn` as a clause, here and in steps and access: `Cursor` has its word so, and a struct would lend the buffer on at each step.
 pub fn next_word(ring: Ring, w: &mut [u8], long: usize) -> Moved
     requires { HeldOn ring.lengths ring.strip w.old long }
     ensures { MovedIs ring.lengths ring.strip w.old long w.new result }
