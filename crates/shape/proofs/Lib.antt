@@ -1,5 +1,4 @@
--- Laws of powers under the limit, the limits of a strip, and the strip of k and n.
+-- Laws of powers under the limit, and the limits of a strip.
 pub mod Powers
 pub mod Limits
-pub mod Making
 pub mod Rings
