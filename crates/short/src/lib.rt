@@ -65,7 +65,13 @@ pub fn place_of(window: Word) -> u64
     let v = &mut room[..n];
     let turn = rotations::smallest(w, v);
     base(turn, locator::count_leading((s.k - 1) as u8, w), v);
-    let end = end_of(s, ranks::of_word(Word { strip: s, letters: v }));
+    let end = end_of(
+        s,
+        ranks::of_word(Word {
+            strip: s,
+            letters: v,
+        }),
+    );
     if turn == 0 {
         return end - s.n;
     }
