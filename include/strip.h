@@ -21,7 +21,7 @@
 
        gcc -O2 -Iinclude host.c crates/strip/out/libstrip.a -o host
 
-   Of the C library it needs memcpy and memset, and of the stack about 62 kB in mark_at, print_marks, short_mark_at, short_print_marks and picture_of, 35 kB in
+   Of the C library it needs memcpy and memset, and of the stack about 62 kB in mark_at, print_marks and picture_of, 35 kB in
    misreadings_of, at most 33 kB in the others. On a 2.6 GHz machine and the strip (2, 60), as measured with the older kit and not again, rank_of,
    place_of and look_up take some 2 us (look_up 3 us with 500 sections), turn_of some 0.1 us, word_of, mark_at and print_marks some 70 to 110 us, and
    each mark printed a few ns more; short_place_of as rank_of, short_mark_at and short_print_marks as word_of; picture_of as print_marks, and 0.1 ms more for the largest file. The turn of a word that repeats itself, or has a long run of its
