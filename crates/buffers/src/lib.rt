@@ -5,12 +5,14 @@ ghost use Rattle.std.specs.Prelude.{◌≡◌, ◌≤◌, length};
 ghost use Rattle.theory.specs.Words.{turned};
 ghost use Rattle.buffers.specs.Buffers.{over, filled};
 
-// The source, byte by byte.
+// The source, byte by byte: no `copy_from_slice`, of which a call of memmove may be made, and strip.h asks a host for memcpy and memset alone.
 pub fn copy(src: &[u8], out: &mut [u8])
     requires { length src.now ≤ length out.old }
     ensures { out.new ≡ over src.now out.old }
 {
-    out[..src.len()].copy_from_slice(src);
+    for i in 0..src.len() {
+        out[i] = src[i];
+    }
 }
 
 // The rotation of the source by `turn`.
