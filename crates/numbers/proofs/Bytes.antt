@@ -2,15 +2,17 @@
 use mathlib.Core.Path.{◌≡◌, refl, sym, ◌∙◌, ap}
 use mathlib.Core.List.{List, [], ◌∷◌, ◌++◌, append-nil}
 use mathlib.Core.Logic.{inl, inr}
-use Prim.Native.Nat.{ℕ, zero, suc, ◌-◌, ◌/◌, ◌%◌, ◌^◌, ◌≤◌}
+use Prim.Native.Nat.{ℕ, zero, suc, ◌+◌, ◌-◌, ◌/◌, ◌%◌, ◌^◌, ◌≤◌}
 use native.Mathlib.Omega.{arith}
 use native.Mathlib.Nat.{pow-succ', div-div-eq-div-mul}
 use borrow.Rule.Slice.PartMut.{put_mid}
-use lib.ListN.{length, take, drop, replicate, length-append, length-replicate}
+use lib.ListN.{length, take, drop, replicate, length-append, length-drop, length-replicate}
+use lib.Seq.{length-take-le}
 use Rattle.std.proofs.lemmas.Bool.{cases_lt}
 use Rattle.std.proofs.lemmas.List.{drop-replicate, drop_all, take-replicate, take_all}
 use Rattle.std.specs.Int.{w64, byte_at, bytes_high_first, from_be_bytes}
-use Rattle.theory.specs.Plans.{be_from}
+use Rattle.theory.specs.Plans.{be_from, be}
+use Rattle.buffers.specs.Buffers.{over}
 use Rattle.numbers.specs.Numbers.{put_be}
 use Rattle.numbers.proofs.Numbers.{put-length}
 
@@ -61,3 +63,13 @@ last_read s n h e =
     ap (from_be_bytes w64) shape
     ∙ eight (replicate (8 - n) 0 ++ s) (omega (arith, e, length-append (replicate (8 - n) 0) s, length-replicate {A = ℕ} (8 - n) 0))
     ∙ be_zeros (8 - n) s
+
+-- the contract of `put`, and that of `get`, of what the library's calls leave
+pub written : (n v : ℕ) (out : List ℕ) → n ≤ 8 → take (8 - (8 - n)) (drop (8 - n) (bytes_high_first 8 v)) ++ drop n out ≡ over (put_be n v) out
+written n v out h = ap (λ s. s ++ drop n out) (last_put n v h) ∙ ap (λ i. put_be n v ++ drop i out) (sym (put-length n v))
+
+pub read : (n at : ℕ) (s : List ℕ) → n ≤ 8 → at + n ≤ length s → from_be_bytes w64 (put_mid (8 - n) (8 - (8 - n)) (replicate 8 0) (take (at + n - at) (drop at s))) ≡ be at n s
+read n at s h l =
+    let e : at + n - at ≡ n = omega arith in
+    let long : length (take (at + n - at) (drop at s)) ≡ n = omega (arith, length-take-le (at + n - at) (drop at s) (omega (arith, length-drop at s))) in
+    last_read (take (at + n - at) (drop at s)) n h long ∙ ap (λ i. be_from 0 (take i (drop at s))) e

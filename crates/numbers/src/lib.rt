@@ -7,6 +7,7 @@ ghost use Rattle.buffers.specs.Buffers.{over};
 ghost use Rattle.numbers.specs.Numbers.{put_be};
 
 // The last N of a number's 8 bytes.
+#[tactic(auto, using(crate::proofs::Bytes::written))]
 pub fn put<const N: usize>(v: u64, out: &mut [u8])
     requires { (N ≤ 8) × (N ≤ length out.old) }
     ensures { out.new ≡ over (put_be N v) out.old }
@@ -15,6 +16,7 @@ pub fn put<const N: usize>(v: u64, out: &mut [u8])
 }
 
 // The number in the N bytes from a place on.
+#[tactic(auto, using(crate::proofs::Bytes::read))]
 pub fn get<const N: usize>(src: &[u8], at: usize) -> u64
     requires { (N ≤ 8) × (at + N ≤ length src.now) }
     ensures { result ≡ be at N src.now }
