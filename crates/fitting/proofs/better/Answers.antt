@@ -1,6 +1,7 @@
 -- better: the filling, its place, and whether the window there is laid.
 use mathlib.Core.Path.{◌≡◌, sym, ◌∙◌, ap, subst}
 use native.Mathlib.Omega.{arith}
+use Rattle.std.proofs.Common.{rules}
 use Rattle.theory.specs.Strips.{place_of}
 use Rattle.shape.specs.Shapes.{WordOn}
 use Rattle.plans.proofs.Laid.{laid_some, laid_none}
@@ -23,7 +24,7 @@ returns-then-is_some c =
     let a = c.args in
     let s = a.plan.now.sections.bytes.now in
     lower s a.best (place_is (goal.at.returns-then-is_some c).After-place_of-place) c.if-place-best.true
-    (laid_some s _ c.laying.result c.laying.ensures (sym c.if-is_some.true ∙ c.is_some.ensures))
+    (laid_some s _ c.laying.result c.laying.ensures (search rules))
 
 pub returns : goal.returns
 returns c =
@@ -31,6 +32,6 @@ returns c =
     let s = a.plan.now.sections.bytes.now in
     let place = place_is (goal.at.returns c).After-place_of-place in
     elim c.else-place-best.branch [
-      | else-place-best-via-then-place-best+else-is_some w ↦ not_laid s a.best place (laid_none s _ w.laying.result w.laying.ensures (sym w.if-is_some.false ∙ w.is_some.ensures))
+      | else-place-best-via-then-place-best+else-is_some w ↦ not_laid s a.best place (laid_none s _ w.laying.result w.laying.ensures (search rules))
       | else-place-best-via-else-place-best w ↦ not_lower s a.best place w.if-place-best.false
     ]

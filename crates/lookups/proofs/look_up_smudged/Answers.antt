@@ -1,6 +1,7 @@
 -- What fits is laid.
-use mathlib.Core.Path.{◌≡◌, sym, subst}
+use mathlib.Core.Path.{◌≡◌, subst}
 use native.Mathlib.Omega.{arith}
+use Rattle.std.proofs.Common.{rules}
 use Rattle.std.specs.Prelude.{Some}
 use Rattle.calls.specs.Codes.{number_of}
 use Rattle.fitting.specs.Fits.{Finds}
@@ -27,5 +28,5 @@ pub returns : goal.returns
 returns c =
     let a = c.args in
     let plan = c.in_ok-accepted.accepted.accepted in
-    let says = answered plan a.window.now (found (goal.at.returns c).In_ok-place) (sym c.in_ok-check_window.ensures) a.tray.now c.give.ensures in
+    let says = answered plan a.window.now (found (goal.at.returns c).In_ok-place) (search rules) a.tray.now c.give.ensures in
     subst (λ s. SmudgedSays s a.window.now a.tray.now c.give.new.tray (number_of c.give.result)) c.in_ok-accepted.ensures.1 says

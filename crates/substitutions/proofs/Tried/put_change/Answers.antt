@@ -1,9 +1,9 @@
 -- put_change: the window copied and changed, its place, and the entry if it is laid there.
 use mathlib.Core.Path.{◌≡◌, sym, ◌∙◌, ap, subst}
-use mathlib.Core.Bool.{not}
 use native.Mathlib.Omega.{arith}
 use lib.ListN.{set, replicate}
 use lib.Seq.{length-take-le}
+use Rattle.std.proofs.Common.{rules}
 use Rattle.theory.specs.Strips.{place_of}
 use Rattle.theory.specs.Substitutions.{change, changed}
 use Rattle.buffers.proofs.Bytes.{over-whole}
@@ -44,12 +44,12 @@ returns-then-is_none c =
     let a = c.args in
     let t = a.self.now in
     wrote_not t.plan.accepted t.word a.j c.requires.2 (place_is (goal.at.returns-then-is_none c).After-place_of-place) a.out.now
-    (laid_none t.plan.sections.bytes.now _ c.laying.result c.laying.ensures (sym (c.is_none.ensures ∙ ap not c.if-is_none.true)))
+    (laid_none t.plan.sections.bytes.now _ c.laying.result c.laying.ensures (search rules))
 
 pub returns : goal.returns
 returns c =
     let a = c.args in
     let t = a.self.now in
     wrote_one t.plan.accepted t.word a.j c.requires.2 (place_is (goal.at.returns c).After-place_of-place) a.out.now
-    (laid_some t.plan.sections.bytes.now _ c.laying.result c.laying.ensures (sym (c.is_none.ensures ∙ ap not c.if-is_none.false)))
+    (laid_some t.plan.sections.bytes.now _ c.laying.result c.laying.ensures (search rules))
     (two_bytes a.j a.a (put_be 8 c.place_of-place.result) a.out.now _ (omega (arith, c.requires.0)) c.put.ensures)

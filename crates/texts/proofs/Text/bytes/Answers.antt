@@ -1,5 +1,4 @@
 -- Bytes as they are.
-use mathlib.Core.Path.{refl}
 use Rattle.std.proofs.Common.{rules}
 use Rattle.std.proofs.lemmas.Slice.{overwrites}
 use Rattle.texts.proofs.Text.bytes.Goals as goal
@@ -7,7 +6,7 @@ use Rattle.texts.proofs.Text.bytes.Goals as goal
 pub returns : goal.returns
 returns c =
     record {
-      adds = record { ends = refl; stands = search (rules, overwrites); behind = search (rules, overwrites) };
+      adds = record { ends = search (rules, overwrites); stands = search (rules, overwrites); behind = search (rules, overwrites) };
       whole = search (rules, overwrites);
-      same_buffer = refl;
+      same_buffer = search (rules, overwrites);
     }
