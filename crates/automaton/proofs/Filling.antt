@@ -32,7 +32,7 @@ started {k} {w} {t} r = record { size = r.size; done = go; row = λ s h l. absur
     go s (suc i) h l = absurd (omega arith)
 
 -- every number of the table is in range
-returning_fits : {k : ℕ} {w : List ℕ} → Counted k w → (s l : ℕ) → l ≤ length w → returning k w s l ≤ 2 ^ 60
+pub returning_fits : {k : ℕ} {w : List ℕ} → Counted k w → (s l : ℕ) → l ≤ length w → returning k w s l ≤ 2 ^ 60
 returning_fits {k} {w} c s l h = omega (arith, home_small k w s l, pow-le-pow_right {n = k} (omega arith) h, c.range)
 
 -- a state of length l: its number, by the recurrence, from the table u as it was when the length began

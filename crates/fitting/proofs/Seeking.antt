@@ -52,7 +52,7 @@ pub record Best (s : List ℕ) (x : DS.Strip) (w : List ℕ) (c b : ℕ) : Type 
   pub least : (i : ℕ) → i < c → laid_at s (spot x w i) ≡ true → b ≤ spot x w i
 
 module _ {s : List ℕ} {x : DS.Strip} {w : List ℕ} (h : Sought s x w) where
-  window-long : length w ≡ x.n
+  pub window-long : length w ≡ x.n
   window-long = (smudge_fine x.k x.n w h.fine).0
 
   -- a filling is a word of the strip

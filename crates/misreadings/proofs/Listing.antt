@@ -35,13 +35,13 @@ module _ {s w : List ℕ} {x : Spot} (h : Found s w x) where
     all : laid_of s w (changes x.plan.strip.k w) ≡ misread s w
     all = ap (λ k. laid_of s w (changes k w)) (x.plan.accepted.letters ∙ ap shades h.plan)
 
-    how_many_lem : f ≡ length (misread s w)
+    pub how_many_lem : f ≡ length (misread s w)
     how_many_lem = here.count ∙ ap length all
 
-    list_long : length (entries_of s w) ≡ 10 * f
+    pub list_long : length (entries_of s w) ≡ 10 * f
     list_long = entries_long s w (misread s w) ∙ ap (λ m. 10 * m) (sym how_many_lem)
 
-    list_taken : take (10 * f) T ≡ entries_of s w
+    pub list_taken : take (10 * f) T ≡ entries_of s w
     list_taken = ap (take (10 * f)) (here.bytes ∙ ap (λ cs. over (list_bytes s w cs) t) all) ∙ take_at (entries_of s w) (drop (length (entries_of s w)) t) (10 * f) list_long
 
     pub too_small : (u : List ℕ) → length u < 10 * f → MisreadingsSays s w u u (Err TrayTooSmall)

@@ -64,7 +64,7 @@ module _ {out₀ : List ℕ} {lead : ℕ} {out : List ℕ} {at i : ℕ} (s : Spr
     mark : get_or out i 0 ≡ get_or out₀ i 0
     mark = ap (λ x. get_or out x 0) (sym (add-zero i)) ∙ sym (get_or-drop i out 0 0) ∙ ap (λ x. get_or x 0 0) (s.unread ∙ next)
 
-    small : get_or out i 0 < 10
+    pub small : get_or out i 0 < 10
     small = omega (arith, mark, marks_head 10 (get_or out₀ i 0) (drop (suc i) out₀) marks)
 
     pub spread_mark : at % 71 < 70 → Spread out₀ lead (set out at (48 + get_or out i 0)) (at + 1) (i + 1)
@@ -82,7 +82,7 @@ module _ {out₀ : List ℕ} {lead : ℕ} {out : List ℕ} {at i : ℕ} (s : Spr
     last : rest out₀ at i ≡ 10 ∷ []
     last = ap (λ x. broken (70 - at % 71) (glyphs x)) (drop_of_length-le out₀ {i = i} done)
 
-    spread_end : at + 1 ≡ length out
+    pub spread_end : at + 1 ≡ length out
     spread_end = omega (arith, s.ends, s.size, ap length last)
 
     pub spread_all : set out at 10 ≡ row_text (drop lead out₀)

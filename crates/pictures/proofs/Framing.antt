@@ -5,7 +5,7 @@ use Prim.Native.Nat.{ℕ, ◌^◌, ◌<◌}
 use native.Mathlib.Omega.{arith}
 use lib.Dec.{eqb, leb}
 use lib.ListN.{length}
-use borrow.Author.Tests.{eq-eqb, leb-true, le-leb, lt-leb, not-false}
+use borrow.Author.Tests.{eqb-true, eq-eqb, leb-true, leb-false, le-leb, lt-leb, not-false}
 use Rattle.theory.specs.Words.{first_of, when}
 use Rattle.theory.specs.Strips.{strip_fault}
 use Rattle.theory.proofs.Base.{and_l, and_r, and_in}
@@ -41,11 +41,17 @@ module _ (k n p c h : ℕ) where
   pub left : k ≡ 2 → p < k ^ n → rest ≡ when (not (framed c h)) 13
   left two l = rw (eq-eqb k 2 two, lt-leb (k ^ n) p l)
 
-  pub frame_of : picture_fault k n p c h ≡ 0 → Frame c h
-  frame_of z =
+  none : picture_fault k n p c h ≡ 0 → (k ≡ 2) × (p < k ^ n) × Frame c h
+  none z =
       let (shades, more) = first_none (when (not (eqb k 2)) 12) _ (first_none (strip_fault k n) _ z).1 in
-      let (place, frame) = first_none (when (leb (k ^ n) p) 4) _ more in
-      frame_in c h (not-false _ (when-none _ 13 (λ e. omega arith) frame))
+      let (place, frame) = first_none (when (leb (k ^ n) p) 4) _ more in (
+        eqb-true k 2 (not-false _ (when-none _ 12 (λ e. omega arith) shades)),
+        leb-false (k ^ n) p (when-none _ 4 (λ e. omega arith) place),
+        frame_in c h (not-false _ (when-none _ 13 (λ e. omega arith) frame)),
+      )
+
+  pub frame_of : picture_fault k n p c h ≡ 0 → Frame c h
+  frame_of z = let (_, _, f) = none z in f
 
   pub file-long : picture_fault k n p c h ≡ 0 → length (picture k n p c h) ≡ file_size c h
   file-long z = file-size k n p c h (frame_of z).some

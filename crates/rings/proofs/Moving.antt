@@ -103,7 +103,7 @@ module _ {d : Direction} {ok : ℕ → Bool} {k n : ℕ} (r : Laws d ok k n) {u 
     emptied : m ≡ 0 → after ≡ padded n []
     emptied e = q.buffer ∙ ap (padded n) (nil_of y (sym q.size ∙ e))
 
-    size_kept : m ≡ 0 → length after ≡ n
+    pub size_kept : m ≡ 0 → length after ≡ n
     size_kept e = ap length (emptied e) ∙ padded-length n [] (omega arith)
 
     pub wraps : (word : ℕ → List ℕ) {v : List ℕ} {long : ℕ} → m ≡ 0 → First d ok k n (word n) → Puts (length after) (word (length after)) v long

@@ -36,7 +36,7 @@ listed_some : (lengths : Lengths) (k n : ℕ) {x : List ℕ} → In x (ring_word
 listed_some lengths k n {x} i = lyndon_some x ((ring_words_lem (ok_of lengths n) k n x).0 i).2
 
 -- as many letters as are taken
-take_counted : (m : ℕ) (w : List ℕ) → take (length (take m w)) w ≡ take m w
+pub take_counted : (m : ℕ) (w : List ℕ) → take (length (take m w)) w ≡ take m w
 take_counted m w = ap (take (length (take m w))) (sym (take-append-drop m w)) ∙ take-append_seam (take m w) (drop m w)
 
 module _ (lengths : Lengths) (k n : ℕ) (two : 2 ≤ k) (one : 1 ≤ n) where

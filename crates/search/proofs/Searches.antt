@@ -62,8 +62,8 @@ module _ (s : DS.Strip) (g : Goal) (inside : Within s g) where
     in_target : j < length T
     in_target = omega (arith, q, a.size, t.long)
 
-    search_back : 0 < j → (1 ≤ period) × (period ≤ j)
-    search_back b = at (a.repeats b)
+    pub search_back : (0 < j → (1 ≤ period) × (period ≤ j)) × (j < length out)
+    search_back = (λ b. at (a.repeats b), q)
       where
         at : Periodic T period j → (1 ≤ period) × (period ≤ j)
         at (periodic x f e n m) = (omega (arith, f.some), m)
@@ -71,7 +71,7 @@ module _ (s : DS.Strip) (g : Goal) (inside : Within s g) where
     -- what stands a period back is the target's letter
     back_is : 0 < j → letter_back out j period ≡ get_or T (j - period) 0
     back_is b =
-        let near : j - period < j = omega (arith, search_back b) in
+        let near : j - period < j = omega (arith, search_back.0 b) in
         sym (back_inside out period j b) ∙ sym (get_or-take j out (j - period) 0 near) ∙ ap (λ r. get_or r (j - period) 0) (sym a.begun) ∙ get_or-take j T (j - period) 0 near
 
     tops : drop (suc j) out ≡ replicate (s.n - suc j) (s.k - 1)

@@ -24,7 +24,7 @@ module _ (s w : List ℕ) where
   entries_long [] = refl
   entries_long (c ∷ cs) = length-append (entry_bytes s w c) (list_bytes s w cs) ∙ omega (arith, entries_long cs)
 
-  laid_few : (cs : List Change) → length (laid_of s w cs) ≤ length cs
+  pub laid_few : (cs : List Change) → length (laid_of s w cs) ≤ length cs
   laid_few cs = keep-length (λ c. laid_at s (new_place s w c)) cs
 
 -- so many entries are written of some changes
@@ -40,7 +40,7 @@ module _ {s w : List ℕ} {xs : List Change} {t T : List ℕ} {f : ℕ} (front :
 
   -- and others on the rest
   module _ (ys : List Change) (room : 10 * (length xs + length ys) ≤ length t) where
-    rest-room : 10 * length ys ≤ length (rest_of f T)
+    pub rest-room : 10 * length ys ≤ length (rest_of f T)
     rest-room = omega (arith, front-size (omega arith), front_few, length-take (length T - 10 * f) (drop (10 * f) T), length-drop (10 * f) T)
 
     pub wrote_on : {L : List ℕ} {g : ℕ} → Wrote s w ys (rest_of f T) L g → Wrote s w (xs ++ ys) t (put_mid (10 * f) (length T - 10 * f) T L) (f + g)
